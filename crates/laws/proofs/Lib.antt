@@ -1,0 +1,9 @@
+-- Laws that speak of nothing of this project.
+pub mod Integers
+pub mod Division
+pub mod Powers
+pub mod Residues
+pub mod Choices
+pub mod Stores
+pub mod Tables
+pub mod Signed

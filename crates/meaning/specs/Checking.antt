@@ -1,0 +1,49 @@
+-- The checks of a string made elsewhere: plain, and nonadjacent. They return weight and top, and write nothing.
+-- Assumes nothing.
+use mathlib.Core.Path.{_≡_}
+use mathlib.Core.Logic.{_≢_}
+use mathlib.Core.Bool.{not}
+use mathlib.Core.List.{List, [], _∷_, _++_}
+use Prim.Native.Nat.{ℕ, _+_, _<_}
+use lib.Dec.{T}
+use lib.IntN.{ℤ, pos}
+use lib.ListN.{length, getD}
+use Rattle.meaning.specs.Scalars.{number}
+use Rattle.meaning.specs.Digits.{mostPlaces, largest, inSet, worth, weight, top}
+use Rattle.meaning.specs.Refusals.{Rule, plain, lowest, First, granted, badWidth, longScalar}
+
+-- ---- refusals
+-- 7: digit string over 529 places
+abbrev pub longString : List ℤ → Rule
+longString ds = (7, plain (mostPlaces < length ds))
+
+-- the digit at place p is not in D_w
+pub record BadDigit (w : ℕ) (ds : List ℤ) (p : ℕ) : Type 0 where
+  pub within : p < length ds
+  pub bad : T (not (inSet (largest w) (getD ds p (pos 0))))
+
+-- 8: a digit not in D_w; place is the lowest such
+abbrev pub badDigit : ℕ → List ℤ → Rule
+badDigit w ds = (8, lowest (BadDigit w ds))
+
+-- the digit at place p and a higher one fewer than w places away are both nonzero
+pub record Crowded (w : ℕ) (ds : List ℤ) (p : ℕ) : Type 0 where
+  pub other : ℕ
+  pub above : p < other
+  pub near : other < p + w
+  pub here : getD ds p (pos 0) ≢ pos 0
+  pub there : getD ds other (pos 0) ≢ pos 0
+
+-- 2, 3, 7, 8, then 9: string not worth the scalar
+abbrev pub checkRules : (w : ℕ) (s : List ℕ) (ds : List ℤ) → List Rule
+checkRules w s ds = badWidth w ∷ longScalar s ∷ longString ds ∷ badDigit w ds ∷ (9, plain (worth ds ≢ pos (number s))) ∷ []
+
+-- the nonadjacent check adds 10: two nonzero digits fewer than w places apart; place is the lower of the lowest such pair
+abbrev pub nonadjacentRules : (w : ℕ) (s : List ℕ) (ds : List ℤ) → List Rule
+nonadjacentRules w s ds = checkRules w s ds ++ ((10, lowest (Crowded w ds)) ∷ [])
+
+-- ---- what a check by these rules returns: refusal r at place p, weight k, top t
+pub record Check (rules : List Rule) (ds : List ℤ) (r p k t : ℕ) : Type 0 where
+  pub first : First rules r p
+  pub weight-is : k ≡ granted r (weight ds)
+  pub top-is : t ≡ granted r (top ds)

@@ -1,0 +1,63 @@
+-- Recode: the n + 1 digits of a scalar in a form, nine words of marks, the weight and the top.
+-- Assumes nothing.
+use mathlib.Core.Path.{_≡_}
+use mathlib.Core.Logic.{_⊎_, _≢_}
+use mathlib.Core.List.{List, [], _∷_, _++_}
+use Prim.Native.Nat.{ℕ, zero, suc, _+_, _*_, _<_}
+use lib.IntN.{ℤ}
+use lib.ListN.{length, drop}
+use Rattle.meaning.specs.Scalars.{number, bitCount}
+use Rattle.meaning.specs.Digits.{leastWidth, mostWidth, nonzero, weight, top, listed}
+use Rattle.meaning.specs.Forms.{Form}
+use Rattle.meaning.specs.Refusals.{Rule, plain, First, longScalar}
+
+-- ---- marks
+-- how many words of marks there are
+abbrev pub markWords : ℕ
+markWords = 9
+
+-- the number whose bit j is set exactly when place j is nonzero, for the k lowest places of ds
+unfoldable pub marked : ℕ → List ℤ → ℕ
+marked zero ds = 0
+marked (suc k) [] = 0
+marked (suc k) (d ∷ ds) = nonzero d + 2 * marked k ds
+
+-- nine 64-bit words: bit j mod 64 of word j / 64 is set exactly when place j is nonzero
+unfoldable pub marksOf : List ℤ → List ℕ
+marksOf ds = listed (λ q. marked 64 (drop (64 * q) ds)) 0 markWords
+
+-- ---- refusals
+-- 1: form is not 1..4; 2: width outside 2..8, or not 2 with form 1; 3: scalar over 66 bytes; 4: digit buffer under n + 1 places;
+-- 5: marks buffer under 9 words; 6: a digit would be needed above place n, so that no string of n + 1 places has the form
+abbrev pub recodeRules : (form w : ℕ) (s : List ℕ) (places words : ℕ) → List Rule
+recodeRules form w s places words =
+    (1, plain ((form < 1) ⊎ (4 < form)))
+    ∷ (2, plain (((w < leastWidth) ⊎ (mostWidth < w)) ⊎ ((form ≡ 1) × (w ≢ 2))))
+    ∷ longScalar s
+    ∷ (4, plain (places < bitCount s + 1))
+    ∷ (5, plain (words < markWords))
+    ∷ (6, plain ((ds : List ℤ) → Form form w (number s) (bitCount s) ds → ⊥))
+    ∷ []
+
+-- ---- what the call returns and leaves
+-- on acceptance: the digits of the form and then what stood past them, the marks of those digits likewise, their weight and their top
+pub record Recoded (form w : ℕ) (s : List ℕ) (digits₀ : List ℤ) (marks₀ : List ℕ) (k t : ℕ) (digits : List ℤ) (marks : List ℕ) : Type 0 where
+  pub string : List ℤ
+  pub formed : Form form w (number s) (bitCount s) string
+  pub digits-are : digits ≡ string ++ drop (bitCount s + 1) digits₀
+  pub marks-are : marks ≡ marksOf string ++ drop markWords marks₀
+  pub weight-is : k ≡ weight string
+  pub top-is : t ≡ top string
+
+-- in a refusal: 0 in both fields, and both buffers as lent
+pub record Unrecoded (digits₀ : List ℤ) (marks₀ : List ℕ) (k t : ℕ) (digits : List ℤ) (marks : List ℕ) : Type 0 where
+  pub digits-are : digits ≡ digits₀
+  pub marks-are : marks ≡ marks₀
+  pub weight-is : k ≡ 0
+  pub top-is : t ≡ 0
+
+-- the call: refusal r at place p, weight k, top t, and the two buffers afterwards
+pub record Recode (form w : ℕ) (s : List ℕ) (digits₀ : List ℤ) (marks₀ : List ℕ) (r p k t : ℕ) (digits : List ℤ) (marks : List ℕ) : Type 0 where
+  pub first : First (recodeRules form w s (length digits₀) (length marks₀)) r p
+  pub accepted : r ≡ 0 → Recoded form w s digits₀ marks₀ k t digits marks
+  pub refused : r ≢ 0 → Unrecoded digits₀ marks₀ k t digits marks
