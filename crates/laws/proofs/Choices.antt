@@ -1,6 +1,6 @@
 -- Choices by a test: what holds of a choice, two choices by one test, and tests that pass or fail. Assumes nothing.
 use mathlib.Core.Path.{_≡_, refl, subst}
-use mathlib.Core.Logic.{_≢_}
+use mathlib.Core.Logic.{_≢_, _⊎_, inl, inr}
 use mathlib.Core.Bool.{Bool, true, false, not, cond, _&&_, _||_}
 use Prim.Native.Nat.{ℕ}
 use lib.Dec.{T, eqb, eqb→eq, eqb-refl, T-not, not-T}
@@ -36,6 +36,18 @@ and-of false q a b = absurd a
 pub not-and : (p q : Bool) → T (not (p && q)) → T p → T (not q)
 not-and true q t h = t
 not-and false q t h = absurd h
+
+pub or-either : (p q : Bool) → T (p || q) → T p ⊎ T q
+or-either true q t = inl tt
+or-either false q t = inr t
+
+pub or-left : (p q : Bool) → T p → T (p || q)
+or-left true q t = tt
+or-left false q t = absurd t
+
+pub or-right : (p q : Bool) → T q → T (p || q)
+or-right true q t = tt
+or-right false q t = t
 
 -- tests of numbers
 pub equal : (a b : ℕ) → a ≡ b → T (eqb a b)

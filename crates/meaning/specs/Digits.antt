@@ -63,8 +63,8 @@ top [] = 0
 top (d ∷ ds) = over (nonzero d) (top ds)
 
 -- any w consecutive places hold at most one nonzero: of two places fewer than w apart one holds 0
-unfoldable pub Apart : ℕ → List ℤ → Type 0
-Apart w ds = (i j : ℕ) → i < j → j < i + w → getD ds i (pos 0) ≢ pos 0 → getD ds j (pos 0) ≡ pos 0
+pub record Apart (w : ℕ) (ds : List ℤ) : Type 0 where
+  pub one-of : (i j : ℕ) → i < j → j < i + w → getD ds i (pos 0) ≢ pos 0 → getD ds j (pos 0) ≡ pos 0
 
 -- the values of f at n places from place i on, as a list
 unfoldable pub listed : {A : Type 0} → (ℕ → A) → ℕ → ℕ → List A
