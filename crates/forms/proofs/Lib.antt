@@ -20,3 +20,4 @@ pub mod Weights
 pub mod Forms
 pub mod Turns
 pub mod Refusals
+pub mod Strings

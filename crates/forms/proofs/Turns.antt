@@ -7,13 +7,8 @@ use native.Mathlib.Nat.{mod-lt, mul-one, div-one, add-zero}
 use lib.Pow.{pow-pos, split, low, high, shr-shr}
 use lib.IntN.{ℤ, pos, _-ℤ_}
 use Rattle.laws.proofs.Powers.{pow-pred}
-use Rattle.forms.specs.Wnaf.{wnafDigit, wnafNext, remaining}
+use Rattle.forms.specs.Wnaf.{wnafDigit, wnafNext, remaining, Turn}
 use Rattle.forms.proofs.Wnaf as W
-
--- the digit z, and the carry and the skip with which what remains is told at the next place
-pub record Turn (w N i R carry skip : ℕ) (z : ℤ) : Type 0 where
-  pub digit : z ≡ wnafDigit w R
-  pub next : remaining N (i + 1) carry skip ≡ wnafNext w R
 
 -- ---- by cases of R
 module _ (w R : ℕ) where

@@ -41,6 +41,7 @@ pub record Step (w i : ℕ) (R v ρ : ℤ) : Type 0 where
 -- the digit of such a block
 pub record At (w i : ℕ) (R v ρ : ℤ) : Type 0 where
   pub digit : Digit w (oddPart w v)
+  pub over : w ≤ suc i + twos w v
   pub from : suc i - w ≤ spot w i v
   pub under : spot w i v < suc i
   pub is : R ≡ pos (2 ^ spot w i v) *ℤ oddPart w v +ℤ ρ
@@ -88,7 +89,7 @@ module _ (w : ℕ) (two : 2 ≤ w) where
       let B = unit-block w two v (step-some S) (step-fits S) in
       let (l, e) = place w (suc i) (twos w v) R v ρ (oddPart w v) (S .law) B in
       let s = short w (twos w v) (omega (arith, step-fits S, B .low)) in
-      record { digit = B .digit; from = omega arith; under = omega arith; is = e }
+      record { digit = B .digit; over = l; from = omega arith; under = omega arith; is = e }
 
   -- the string of R from that of ρ
   pub step-put : (L i : ℕ) (R v ρ : ℤ) {ds : List ℤ} → Step w i R v ρ → suc i ≤ L → Under w L ρ (suc i - w) ds → Under w L R (suc i) (set ds (spot w i v) (oddPart w v))

@@ -1,4 +1,5 @@
 -- wNAF as code makes it: from the lowest place up, by the number that remains. Assumes nothing.
+use mathlib.Core.Path.{_≡_}
 use mathlib.Core.Bool.{cond}
 use mathlib.Core.List.{List, [], _∷_}
 use Prim.Native.Nat.{ℕ, zero, suc, _+_, _-_, _*_, _/_, _%_, _^_}
@@ -25,3 +26,8 @@ wnafFrom w (suc p) R = wnafDigit w R ∷ wnafFrom w p (wnafNext w R)
 -- what remains of N at place i with a carry, where the next `skip` digits are 0
 abbrev pub remaining : (N i carry skip : ℕ) → ℕ
 remaining N i carry skip = (N / 2 ^ (i + skip) + carry) * 2 ^ skip
+
+-- a turn at place i, where R remains of N: its digit z, and the carry and the skip with which what remains is told at the next place
+pub record Turn (w N i R carry skip : ℕ) (z : ℤ) : Type 0 where
+  pub digit : z ≡ wnafDigit w R
+  pub next : remaining N (i + 1) carry skip ≡ wnafNext w R

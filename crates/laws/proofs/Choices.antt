@@ -58,3 +58,7 @@ unequal a b t e = T-not (eqb a b) t (equal a b e)
 
 pub not-equal : (a b : ℕ) → a ≢ b → T (not (eqb a b))
 not-equal a b n = not-T (eqb a b) (λ t. n (eqb→eq a b t))
+
+-- the two outcomes of a test are different
+pub true-false : true ≡ false → ⊥
+true-false e = subst T e tt

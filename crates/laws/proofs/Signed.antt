@@ -90,3 +90,7 @@ module _ (w : Width) (n : ℕ) (h : n < 2 ^ hbits w) where
 -- ---- a signed number's bits are 0 where it is
 pub bits-none : (w : Width) (z : ℤ) → SFits w z → ofZ w z ≡ 0 → z ≡ pos 0
 bits-none w z f e = sym (toZ-ofZ f) ∙ ap (toZ w) e ∙ toZ-ofZ {w = w} {z = pos 0} (record { sfits = pow-pos (hbits w) })
+
+-- and only there
+pub bits-some : (w : Width) (z : ℤ) → (ofZ w z ≡ 0 → ⊥) → z ≡ pos 0 → ⊥
+bits-some w z n e = n (ap (ofZ w) e)

@@ -1,11 +1,11 @@
 -- Lists of any element after stores: filled from the front, one store a turn. Assumes nothing.
 use mathlib.Core.Path.{_≡_, refl, sym, ap, _∙_}
-use mathlib.Core.List.{List, [], _∷_, _++_, append-assoc, append-nil}
-use Prim.Native.Nat.{ℕ, zero, suc, _+_, _-_, _≤_, _<_}
+use mathlib.Core.List.{List, [], _∷_, _++_, append-nil}
+use Prim.Native.Nat.{ℕ, _+_, _≤_, _<_}
 use native.Mathlib.Numerals.{add-one}
 use native.Mathlib.Omega.{arith}
-use lib.ListN.{length, getD, take, drop, set, length-set, length-append, length-drop, take-append-drop}
-use lib.Seq.{drop-cons, take-suc, take-suc-set, drop-set-lt, drop-drop, take-length, drop-length, set-at}
+use lib.ListN.{length, getD, take, drop, set, length-set, take-append-drop}
+use lib.Seq.{take-suc, take-suc-set, drop-set-lt, drop-drop, take-length, drop-length}
 
 -- the list `wanted` is written over the front of d₀ up to index i
 pub record Filled {A : Type 0} (wanted d₀ d : List A) (i : ℕ) : Type 0 where
@@ -36,3 +36,8 @@ module _ {A : Type 0} (wanted d₀ : List A) where
   fill-all d i f e =
       sym (take-append-drop i d) ∙ ap (λ t. t ++ drop i d) (f .fore ∙ ap (λ k. take k wanted) e ∙ take-length wanted)
       ∙ ap (λ t. wanted ++ t) (f .aft ∙ ap (λ k. drop k d₀) e)
+
+  -- and where nothing stood past it, that is all
+  pub fill-exact : (d : List A) (i : ℕ) → Filled wanted d₀ d i → i ≡ length wanted → length d₀ ≡ length wanted → d ≡ wanted
+  fill-exact d i f e l =
+      fill-all d i f e ∙ ap (λ t. wanted ++ t) (ap (λ k. drop k d₀) (sym l) ∙ drop-length d₀) ∙ append-nil wanted

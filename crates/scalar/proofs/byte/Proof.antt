@@ -1,0 +1,34 @@
+-- `scalar::byte` meets its contract. Assumes nothing.
+use mathlib.Core.Path.{sym, _∙_}
+use denote.Ref.{now}
+use borrow.Author.Needs.{needs}
+use Rattle.scalar.proofs.Bytes.{Bytes, byte-at, byte-past}
+use Rattle.scalar.proofs.byte.Statement.{statement}
+use Rattle.scalar.proofs.byte.Tie as tie
+
+sub-at : tie.Need-sub-at
+sub-at c = search needs
+
+sub-at-2 : tie.Need-sub-at-2
+sub-at-2 c = search needs
+
+shared-slice-read-wide : tie.Need-shared-slice-read-wide
+shared-slice-read-wide c = search needs
+
+wide-requires : tie.Need-wide-requires
+wide-requires c κs = search needs
+
+returns : tie.Need-returns
+returns c =
+    let a = c .before .before .before .before .args in
+    let bytes : Bytes (now (a .s)) = λ i. c .before .before .before .shared-slice-known .given i .fits in
+    c .wide .ensures ∙ sym (byte-at (now (a .s)) bytes (a .q) (c .before .before .if1 .taken))
+
+returns-2 : tie.Need-returns-2
+returns-2 c =
+    let a = c .before .before .args in
+    sym (byte-past (now (a .s)) (λ i. c .before .shared-slice-known .given i .fits) (a .q) (c .if1 .left))
+
+pub byte-spec : {M : Type 1} → statement M
+byte-spec =
+    tie.close (tie.spec sub-at sub-at-2 shared-slice-read-wide wide-requires returns returns-2)

@@ -1,0 +1,54 @@
+-- `scalar::window` meets its contract: one law where the window ends at place 0 or above, one where it does not. Assumes nothing.
+use mathlib.Core.Path.{_∙_}
+use denote.Ref.{now}
+use borrow.Author.Needs.{needs}
+use native.Mathlib.Omega.{arith}
+use Rattle.meaning.specs.Scalars.{number}
+use Rattle.scalar.proofs.Fields.{window-over, window-under}
+use Rattle.scalar.proofs.window.Statement.{statement}
+use Rattle.scalar.proofs.window.Tie as tie
+
+add-field : tie.Need-add-field
+add-field c = search needs
+
+field-requires : tie.Need-field-requires
+field-requires c κs = search needs
+
+returns : tie.Need-returns
+returns c =
+    let a = c .before .before .before .args in
+    c .field .ensures ∙ window-over (number (now (a .s))) (a .i) (a .w) (c .before .if1 .taken)
+
+cast-there : tie.Need-cast-there
+cast-there c = search needs
+
+add-field-2 : tie.Need-add-field-2
+add-field-2 c = search needs
+
+field-requires-2 : tie.Need-field-requires-2
+field-requires-2 c κs = search needs
+
+sub-result : tie.Need-sub-result
+sub-result c = search needs
+
+shl-result : tie.Need-shl-result
+shl-result c = search needs
+
+returns-2 : tie.Need-returns-2
+returns-2 c =
+    let a = c .before .before .before .args in
+    rw (c .field2 .ensures) (window-under (number (now (a .s))) (a .i) (a .w) 32 (c .before .if1 .left) (omega arith))
+
+pub window-spec : {M : Type 1} → statement M
+window-spec =
+    tie.close
+    (tie.spec
+    add-field
+    field-requires
+    returns
+    cast-there
+    add-field-2
+    field-requires-2
+    sub-result
+    shl-result
+    returns-2)

@@ -1,0 +1,2 @@
+-- What the contracts of the width type say.
+pub mod Widths

@@ -1,0 +1,109 @@
+// The width of a recoding, with everything that depends on it alone: the limits of widths, strings and tapes, the digit set, and where its windows start
+// in the table. Every call gets its width from a raw byte by `known` and by nothing else.
+ghost use mathlib.Core.Path.{_≡_};
+ghost use Prim.Native.Nat.{_+_, _-_, _^_};
+ghost use lib.IntN.{natAbs};
+ghost use Rattle.meaning.specs.Digits.{leastWidth, mostWidth, mostPlaces, inSet, largest};
+ghost use Rattle.meaning.specs.Taping.{mostWords};
+ghost use Rattle.meaning.specs.Windows.{tableStart};
+ghost use Rattle.meaning.specs.Running.{entries};
+ghost use Rattle.width.specs.Widths.{Lawful, Limits, knownOf};
+
+// How many bits a digit has, its sign included.
+pub struct Width {
+    bits: u8,
+}
+
+// What a raw byte is: a width from the smallest to the largest, or none.
+pub enum Known {
+    As(Width),
+    Nothing,
+}
+
+impl Width {
+    // The smallest and the largest width.
+    pub const LEAST: u8 = 2;
+
+    pub const MOST: u8 = 8;
+
+    // The fewest and the most places of a string.
+    pub const LEAST_PLACES: usize = 0;
+
+    pub const MOST_PLACES: usize = 529;
+
+    // The fewest and the most words of a tape: a load, and a double and an addition for each place under the highest.
+    pub const LEAST_WORDS: usize = 0;
+
+    pub const MOST_WORDS: usize = 2 * Width::MOST_PLACES - 1;
+
+    pub fn known(byte: u8) -> Known
+        ensures { λ r. ⌜ r ≡ knownOf byte ⌝ }
+    {
+        if byte < Width::LEAST {
+            return Known::Nothing;
+        }
+        if Width::MOST < byte {
+            return Known::Nothing;
+        }
+        Known::As(Width { bits: byte })
+    }
+
+    pub fn bits(self) -> u32
+        ensures { λ r. ⌜ r ≡ self .bits ⌝ }
+    {
+        self.bits as u32
+    }
+
+    // How many odd multiples a run at this width stores.
+    pub fn entries(self) -> usize
+        requires { ⌜ Lawful (self .bits) ⌝ }
+        ensures { λ r. ⌜ r ≡ entries (self .bits) ⌝ }
+    {
+        let b = self.bits;
+        1usize << (b - Width::LEAST)
+    }
+
+    // The size of the digit set: 0, and an odd number and its negative for each entry. Its contract also says what the limits above are.
+    pub fn digits(self) -> usize
+        requires { ⌜ Lawful (self .bits) ⌝ }
+        ensures size { λ r. ⌜ r ≡ 2 ^ (self .bits - 1) + 1 ⌝ }
+        ensures widths { λ r. do ⌜ Limits leastWidth mostWidth (← ⟦Width::LEAST⟧ .entry) (← ⟦Width::MOST⟧ .entry) ⌝ }
+        ensures places { λ r. do ⌜ Limits 0 mostPlaces (← ⟦Width::LEAST_PLACES⟧ .entry) (← ⟦Width::MOST_PLACES⟧ .entry) ⌝ }
+        ensures words { λ r. do ⌜ Limits 0 mostWords (← ⟦Width::LEAST_WORDS⟧ .entry) (← ⟦Width::MOST_WORDS⟧ .entry) ⌝ }
+    {
+        2 * self.entries() + 1
+    }
+
+    // Whether `d` is in the digit set.
+    pub fn holds(self, d: i8) -> bool
+        requires { ⌜ Lawful (self .bits) ⌝ }
+        ensures { λ r. ⌜ r ≡ inSet (largest (self .bits)) d ⌝ }
+    {
+        let b = self.bits;
+        let half = 1u8 << (b - 1);
+        let size = magnitude(d);
+        if size == 0 {
+            return true;
+        }
+        if size % 2 == 1 { size < half } else { false }
+    }
+
+    // Where the windows of this width start in the table: those of the smaller widths stand before them.
+    pub fn table_start(self) -> usize
+        requires { ⌜ Lawful (self .bits) ⌝ }
+        ensures { λ r. ⌜ r ≡ tableStart (self .bits) ⌝ }
+    {
+        let b = self.bits;
+        (2usize << b) - (2usize << Width::LEAST)
+    }
+}
+
+// The absolute value of a digit. It is widened first: -128 has none among the signed bytes.
+pub fn magnitude(d: i8) -> u8
+    ensures { λ r. ⌜ r ≡ natAbs d ⌝ }
+{
+    if d < 0 {
+        return (0 - (d as i16)) as u8;
+    }
+    d as u8
+}

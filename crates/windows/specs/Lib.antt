@@ -1,0 +1,4 @@
+-- What the contracts of windows say.
+pub mod Parts
+pub mod Tables
+pub mod Openings

@@ -1,0 +1,78 @@
+// Windows of w + 1 bits: u and k of what a window is worth, looked up in one table of all windows of all widths, or worked out.
+pub mod opening;
+mod table;
+
+ghost use mathlib.Core.Logic.{_≢_};
+ghost use Prim.Native.Nat.{_+_, _*_, _/_, _%_, _^_, _≤_, _<_};
+ghost use lib.Count.{trailingZeros};
+ghost use lib.IntN.{pos, _-ℤ_};
+ghost use Rattle.meaning.specs.Digits.{mostWidth};
+ghost use Rattle.meaning.specs.Windows.{leading, second, windowWorth, twos, oddPart, entryUnit, entryTwos};
+ghost use Rattle.width.specs.Widths.{Lawful};
+ghost use Rattle.windows.specs.Parts.{Parts, signed};
+ghost use Rattle.windows.specs.Tables.{Table};
+use crate::table::ENTRIES;
+use crate::table::TWOS;
+use crate::table::UNIT;
+use width::Width;
+
+// u and k.
+pub struct Window {
+    pub unit: i8,
+    pub twos: u8,
+}
+
+// The entry of window s, of tables that hold all windows of all widths.
+fn read(units: &[i8; ENTRIES], twos: &[u8; ENTRIES], w: Width, s: u32) -> Window
+    requires { ⌜ Table (now units) (now twos) ⌝ }
+    requires { ⌜ Lawful (w .bits) ⌝ }
+    requires { ⌜ s < 2 ^ (w .bits + 1) ⌝ }
+    ensures { λ r. ⌜ Parts (w .bits) (entryUnit (w .bits) s) (entryTwos (w .bits) s) r ⌝ }
+{
+    let at = w.table_start() + (s as usize);
+    Window {
+        unit: units[at],
+        twos: twos[at],
+    }
+}
+
+// Window s looked up: u and k are 0 where its two leading bits are equal.
+pub fn look_up(w: Width, s: u32) -> Window
+    requires { ⌜ Lawful (w .bits) ⌝ }
+    requires { ⌜ s < 2 ^ (w .bits + 1) ⌝ }
+    ensures { λ r. ⌜ Parts (w .bits) (entryUnit (w .bits) s) (entryTwos (w .bits) s) r ⌝ }
+{
+    read(&UNIT, &TWOS, w, s)
+}
+
+// u and k of the number of a size and a sign.
+fn split(size: u32, minus: bool) -> Window
+    requires { ⌜ (0 < size) × (2 * size ≤ 2 ^ mostWidth) ⌝ }
+    ensures { λ r. ⌜ Parts mostWidth (signed minus (size / 2 ^ trailingZeros 32 size)) (trailingZeros 32 size) r ⌝ }
+{
+    let k = u32::trailing_zeros(size);
+    let unit = (size >> k) as i8;
+    let twos = k as u8;
+    if minus {
+        Window { unit: -unit, twos }
+    } else {
+        Window { unit, twos }
+    }
+}
+
+// Window s, whose two leading bits are different, worked out: what it is worth less `less`, which is 0, or 1 at an odd window. With 0 it is the entry of s.
+pub fn work_out(w: Width, s: u32, less: u32) -> Window
+    requires { ⌜ Lawful (w .bits) ⌝ }
+    requires { ⌜ s < 2 ^ (w .bits + 1) ⌝ }
+    requires { ⌜ leading (w .bits) s ≢ second (w .bits) s ⌝ }
+    requires { ⌜ less ≤ s % 2 ⌝ }
+    ensures { λ r. ⌜ Parts (w .bits) (oddPart (w .bits) (windowWorth (w .bits) s -ℤ pos less)) (twos (w .bits) (windowWorth (w .bits) s -ℤ pos less)) r ⌝ }
+{
+    let full = 1u32 << w.bits();
+    let half = (s + 1) / 2;
+    if s < full {
+        split(half - less, false)
+    } else {
+        split(full - half + less, true)
+    }
+}
