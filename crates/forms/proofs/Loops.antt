@@ -48,7 +48,7 @@ module _ (b w N t : ℕ) (two : 2 ≤ w) (low : 0 < N → Lowest N t) where
   opens-at i d = step-at w two (window-step w N i d)
 
   -- and at the last
-  last-at : (i : ℕ) → Differ (bit N i) (below N i) → i ≡ w + t → At w i (rest N (suc i)) (windowAt w N i -ℤ pos 1) (pos (2 ^ t))
+  pub last-at : (i : ℕ) → Differ (bit N i) (below N i) → i ≡ w + t → At w i (rest N (suc i)) (windowAt w N i -ℤ pos 1) (pos (2 ^ t))
   last-at i d e =
       let z : suc i - w ≡ suc t = omega arith in
       step-at w two (turn-step w i t (rest N (suc i)) (windowAt w N i) (rest N (suc i - w)) e (window-step w N i d) (ap (rest N) z ∙ lowest-rest N t (low (opens-some N i d))))

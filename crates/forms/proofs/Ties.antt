@@ -48,10 +48,14 @@ lowest-le N j t (o, e, q) (o′, e′, q′) = go (decLe t j)
         let g : o ≡ 2 * x = sym (div-eq-of-eq-mul-right (pow-pos j) e) ∙ div-eq-of-eq-mul-right (pow-pos j) f in
         absurd (omega arith)
 
+-- its bit is set
+pub lowest-bit : (N t : ℕ) → Lowest N t → bit N t ≡ 1
+lowest-bit N t (o, e, q) = ap (λ x. x % 2) (div-eq-of-eq-mul-right (pow-pos t) e) ∙ q
+
 -- what remains at it
 pub lowest-rest : (N t : ℕ) → Lowest N t → rest N (suc t) ≡ diff 0 (2 ^ t)
 lowest-rest N t (o, e, q) =
-    let b : bit N t ≡ 1 = ap (λ x. x % 2) (div-eq-of-eq-mul-right (pow-pos t) e) ∙ q in
+    let b = lowest-bit N t (o, e, q) in
     let m : N % 2 ^ t ≡ 0 = ap (λ x. x % 2 ^ t) e ∙ mul-mod-right (2 ^ t) o in
     rest-suc N t ∙ rw (b, m) (omega ring)
 

@@ -194,3 +194,7 @@ same-left x y z e = let k = simp diffs at (rw (parts x, parts y, parts z) at e) 
 -- no difference
 pub sub-zero-same : (x y : ℤ) → x -ℤ y ≡ pos 0 → x ≡ y
 sub-zero-same x y z = let k = simp diffs at (rw (parts x, parts y) at z) in rw (parts x, parts y) (omega ring)
+
+-- nothing taken off
+pub sub-none : (z : ℤ) → z -ℤ pos 0 ≡ z
+sub-none z = rw (parts z) (simp diffs (omega ring))

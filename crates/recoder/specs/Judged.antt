@@ -1,0 +1,33 @@
+-- What the judgement of a call says, by cases: the width, where no rule applies, or the number of the first that does. Assumes nothing.
+use mathlib.Core.Path.{_≡_}
+use mathlib.Core.Logic.{_≢_}
+use mathlib.Core.List.{List}
+use Prim.Native.Nat.{ℕ, _+_, _≤_}
+use lib.ListN.{length}
+use Rattle.meaning.specs.Scalars.{bitCount, mostBytes}
+use Rattle.meaning.specs.Refusals.{First}
+use Rattle.meaning.specs.Recoding.{markWords, recodeRules}
+use Rattle.width.specs.declared.Width.{Width}
+use Rattle.width.specs.Widths.{Lawful}
+use Rattle.recoder.specs.declared.Judged.{Judged}
+use Rattle.recoder.specs.declared.Judged.the-variants.{Goes, Refused}
+
+-- a form at a width that has it
+pub record Allowed (form w : ℕ) : Type 0 where
+  pub least : 1 ≤ form
+  pub most : form ≤ 4
+  pub lawful : Lawful w
+  pub narrow : form ≡ 1 → w ≡ 2
+
+-- no rule applies, and x is the width
+pub record Admitted (form w : ℕ) (s : List ℕ) (places words : ℕ) (x : Width) : Type 0 where
+  pub bits-is : x .bits ≡ w
+  pub allowed : Allowed form w
+  pub short : length s ≤ mostBytes
+  pub room : bitCount s + 1 ≤ places
+  pub marks : markWords ≤ words
+  pub first : First (recodeRules form w s places words) 0 0
+
+unfoldable pub Admits : (form w : ℕ) (s : List ℕ) (places words : ℕ) → Judged → Type 0
+Admits form w s places words (Goes x) = Admitted form w s places words x
+Admits form w s places words (Refused r) = (r ≢ 0) × First (recodeRules form w s places words) r 0

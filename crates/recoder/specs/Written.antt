@@ -1,0 +1,18 @@
+-- What is written and counted where no rule applies. Assumes nothing.
+use mathlib.Core.Path.{_≡_}
+use mathlib.Core.List.{List}
+use Prim.Native.Nat.{ℕ}
+use lib.IntN.{ℤ}
+use Rattle.meaning.specs.Scalars.{number, bitCount}
+use Rattle.meaning.specs.Digits.{weight, top}
+use Rattle.meaning.specs.Forms.{Form}
+use Rattle.meaning.specs.Recoding.{marksOf}
+use Rattle.recoder.specs.declared.Tally.{Tally}
+
+pub record Written (form w : ℕ) (s : List ℕ) (ds : List ℤ) (marks : List ℕ) (r : Tally) : Type 0 where
+  pub formed : Form form w (number s) (bitCount s) ds
+  pub marks-are : marks ≡ marksOf ds
+  pub accepted : r .refusal ≡ 0
+  pub no-place : r .place ≡ 0
+  pub weight-is : r .weight ≡ weight ds
+  pub top-is : r .top ≡ top ds

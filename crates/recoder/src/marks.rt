@@ -1,0 +1,80 @@
+// The marks of a string, nine words of them, and the counts that are read off them and off the digits.
+ghost use mathlib.Core.Path.{_≡_};
+ghost use Prim.Native.Nat.{_+_, _*_, _≤_};
+ghost use lib.ListN.{length, drop};
+ghost use Rattle.meaning.specs.Digits.{mostPlaces, nonzero, top};
+ghost use Rattle.meaning.specs.Recoding.{markWords, marked, marksOf};
+ghost use Rattle.recoder.specs.Ones.{onesOf};
+
+// How many words of marks there are, and how many places each of them marks.
+pub const WORDS: usize = 9;
+
+const PLACES: usize = 64;
+
+// 1 for a digit that is not 0.
+fn one(digit: i8) -> u64
+    ensures { λ r. ⌜ r ≡ nonzero digit ⌝ }
+{
+    if digit == 0 { 0 } else { 1 }
+}
+
+// The marks of the places from place `from` up, as many as a word has.
+fn word(digits: &[i8], from: usize) -> u64
+    requires { ⌜ from ≤ mostPlaces + 64 ⌝ }
+    ensures { λ r. ⌜ r ≡ marked 64 (drop from (now (digits .entry))) ⌝ }
+{
+    let mut bits: u64 = 0;
+    let mut at = from + PLACES;
+    if digits.len() < at {
+        at = digits.len();
+    }
+    while from < at {
+        at -= 1;
+        let digit = digits[at];
+        bits = 2 * bits + one(digit);
+    }
+    bits
+}
+
+// Writes all nine words.
+pub fn write(digits: &[i8], marks: &mut [u64])
+    requires { ⌜ length (now digits) ≤ mostPlaces ⌝ }
+    requires { ⌜ length (now marks) ≡ markWords ⌝ }
+    ensures { λ _. ⌜ now (marks .exit) ≡ marksOf (now (digits .entry)) ⌝ }
+{
+    let mut q: usize = 0;
+    while q < marks.len() {
+        marks[q] = word(digits, PLACES * q);
+        q += 1;
+    }
+}
+
+// The ones of the words, together.
+pub fn weigh(marks: &[u64]) -> u32
+    requires { ⌜ length (now marks) ≤ markWords ⌝ }
+    ensures { λ r. ⌜ (r ≡ onesOf (now (marks .entry))) × (r ≤ 64 * markWords) ⌝ }
+{
+    let mut sum: u32 = 0;
+    let mut q: usize = 0;
+    while q < marks.len() {
+        sum += u64::count_ones(marks[q]);
+        q += 1;
+    }
+    sum
+}
+
+// 1 + the highest nonzero place. It is looked for from above, where a scalar's digits mostly have it.
+pub fn top(digits: &[i8]) -> usize
+    ensures { λ r. ⌜ r ≡ top (now (digits .entry)) ⌝ }
+{
+    let mut above = digits.len();
+    while 0 < above {
+        let at = above - 1;
+        let digit = digits[at];
+        if digit != 0 {
+            return above;
+        }
+        above = at;
+    }
+    0
+}
