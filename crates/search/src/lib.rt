@@ -1,0 +1,100 @@
+// The cross-check: a plain search for the least weight of a string of nine places worth a small number. It tries every digit at the lowest place.
+ghost use mathlib.Core.Path.{_≡_};
+ghost use Prim.Native.Nat.{_≤_, min};
+ghost use lib.IntN.{pos};
+ghost use Rattle.meaning.specs.Searching.{searchPlaces, Search};
+ghost use Rattle.width.specs.Widths.{Lawful};
+ghost use Rattle.search.specs.Least.{mostNumber, apart, Least};
+use width::Known;
+use width::Width;
+
+// Every string that is searched has this many places.
+const PLACES: u8 = 9;
+
+// No string: more than any weighs, so that a string found is the smaller.
+const NOTHING: u8 = PLACES + 1;
+
+// The largest width and the largest number that are searched.
+const MOST_WIDTH: u8 = 3;
+
+const MOST_NUMBER: u32 = 127;
+
+// The smaller of two weights.
+fn smaller(a: u8, b: u8) -> u8
+    ensures { λ r. ⌜ r ≡ min a b ⌝ }
+{
+    if a <= b { a } else { b }
+}
+
+// How far two numbers are apart.
+fn distance(a: usize, b: usize) -> usize
+    ensures { λ r. ⌜ r ≡ apart a b ⌝ }
+{
+    if a <= b { b - a } else { a - b }
+}
+
+// The least weight of a string worth `size`. What remains above a digit may be negative: its size is searched, since a string with every digit negated is worth
+// the negative and weighs the same.
+fn least(width: Width, places: u8, size: usize) -> u8
+    requires { ⌜ Lawful (width .bits) ⌝ }
+    requires { ⌜ (places ≤ searchPlaces) × (size ≤ mostNumber) ⌝ }
+    ensures { λ r. ⌜ Least (width .bits) places (pos size) r ⌝ }
+{
+    if places == 0 {
+        if size == 0 {
+            return 0;
+        }
+        return NOTHING;
+    }
+    // What is left over a digit is halved: 0 can stand under an even number, and an odd digit under an odd one.
+    if size % 2 == 0 {
+        return least(width, places - 1, size / 2);
+    }
+    let odds = width.entries();
+    let mut best = NOTHING;
+    let mut e = 0;
+    while e < odds {
+        let digit = 2 * e + 1;
+        let plus = least(width, places - 1, distance(size, digit) / 2);
+        let minus = least(width, places - 1, (size + digit) / 2);
+        best = smaller(best, smaller(plus, minus) + 1);
+        e += 1;
+    }
+    best
+}
+
+// What the search answers: a refusal's number, or the least weight.
+pub struct Searched {
+    pub refusal: u8,
+    pub weight: u8,
+}
+
+fn refused(number: u8) -> Searched
+    ensures { λ r. ⌜ r ≡ record { refusal = number; weight = 0 } ⌝ }
+{
+    Searched {
+        refusal: number,
+        weight: 0,
+    }
+}
+
+// The least weight of a string worth the number. Nine places suffice for every number that is taken, so there is one.
+pub fn search(number: u32, width: u8) -> Searched
+    ensures { λ r. ⌜ Search number width (r .refusal) (r .weight) ⌝ }
+{
+    match Width::known(width) {
+        Known::Nothing => refused(2),
+        Known::As(known) => {
+            if MOST_WIDTH < width {
+                return refused(2);
+            }
+            if MOST_NUMBER < number {
+                return refused(3);
+            }
+            Searched {
+                refusal: 0,
+                weight: least(known, PLACES, number as usize),
+            }
+        }
+    }
+}
