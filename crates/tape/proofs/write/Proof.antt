@@ -1,0 +1,118 @@
+-- `tape::write` meets its contract. The loop's invariant: the words of the places from i on are laid. Assumes nothing.
+use mathlib.Core.Path.{_≡_, refl, sym, ap, _∙_}
+use mathlib.Core.Logic.{_≢_}
+use Prim.Native.Nat.{ℕ, _-_, _≤_}
+use native.Mathlib.Omega.{arith}
+use lib.IntN.{pos}
+use lib.ListN.{length, getD, set, length-set}
+use mir.Syntax.{w8}
+use mir.Facts.{toZ-ofZ}
+use Rattle.meaning.specs.Taping.{tapeOf}
+use Rattle.tape.specs.declared.Step.the-variants.{Load}
+use Rattle.tape.specs.Steps.{wordOf, moveOf}
+use Rattle.tape.proofs.Steps.{move-fits}
+use Rattle.tape.proofs.Lengths.{tape-some, AtTop, at-top}
+use Rattle.tape.proofs.Writes.{Laid, laid-none, laid-load, laid-after, laid-down, laid-room, laid-length, laid-all}
+use Rattle.tape.proofs.write.Statement.{statement}
+use Rattle.tape.proofs.write.Tie as tie
+
+abbrev Inv-loop : tie.InvT-loop
+Inv-loop digits high words₀ i₀ at₀ words i at = Laid digits words₀ words i at
+
+abbrev μ-loop : tie.MeasureT-loop
+μ-loop digits high words₀ i₀ at₀ words i at = i
+
+-- what stands at the top
+top-is : (s : tie.Start Inv-loop μ-loop) → s .args .high ≢ 0 → AtTop (s .args .digits .now) (s .args .high - 1)
+top-is s n = at-top (s .args .digits .now) (s .args .high - 1) (omega (arith, s .pre .0))
+
+-- the first word leaves the room
+room : (s : tie.Start Inv-loop μ-loop) (x : ℕ) → length (tapeOf (s .args .digits .now)) ≤ length (set (s .args .words .now) 0 x)
+room s x = rw length-set (s .pre .1)
+
+-- the load's move is found from the digit's bits
+moved : (c : tie.After-move-of Inv-loop μ-loop) → c .move-of .result ≡ moveOf (getD (c .before .before .before .before .args .digits .now) (c .before .before .before .before .args .high - 1) (pos 0))
+moved c = c .move-of .ensures ∙ ap moveOf (toZ-ofZ {w = w8} (record { sfits = c .before .move-of-arg .given }))
+
+returns : tie.Need-returns Inv-loop μ-loop
+returns c = laid-none (c .before .before .args .digits .now) (c .before .before .args .words .now) (omega arith)
+
+sub-i : tie.Need-sub-i Inv-loop μ-loop
+sub-i c = omega arith
+
+shared-slice-copy-out-move-of : tie.Need-shared-slice-copy-out-move-of Inv-loop μ-loop
+shared-slice-copy-out-move-of c = top-is (c .before .before) (c .if1 .left) .within
+
+move-of-requires : tie.Need-move-of-requires Inv-loop μ-loop
+move-of-requires c κs = λ e.
+    top-is (c .before .before .before) (c .before .if1 .left) .some (sym (toZ-ofZ {w = w8} (record { sfits = c .move-of-arg .given })) ∙ e)
+
+encode-requires : tie.Need-encode-requires Inv-loop μ-loop
+encode-requires c κs =
+    let a = c .before .before .before .before .args in
+    rw (moved c) (move-fits (getD (a .digits .now) (a .high - 1) (pos 0)) (c .before .move-of-arg .given))
+
+slice-write-words : tie.Need-slice-write-words Inv-loop μ-loop
+slice-write-words c =
+    let s = c .before .before .before .before .before in
+    omega (arith, s .pre .1, tape-some (s .args .digits .now) (omega (arith, s .pre .0, c .before .before .before .if1 .left)))
+
+loop-holds : tie.Need-loop-holds Inv-loop μ-loop
+loop-holds c =
+    let s = c .before .before .before .before .before in
+    let d = getD (s .args .digits .now) (s .args .high - 1) (pos 0) in
+    laid-after (s .args .digits .now) (s .args .words .now) (s .pre .1) (c .encode .result)
+    (rw (c .encode .ensures ∙ ap (λ m. wordOf (Load m)) (moved (c .before)))
+    (laid-load (s .args .digits .now) (s .args .words .now) (s .pre .1) (s .args .high - 1) d (omega arith) refl))
+
+sub-i-2 : tie.Need-sub-i-2 Inv-loop μ-loop
+sub-i-2 c = omega arith
+
+shared-slice-copy-out-lower : tie.Need-shared-slice-copy-out-lower Inv-loop μ-loop
+shared-slice-copy-out-lower c = omega arith
+
+lower-requires : tie.Need-lower-requires Inv-loop μ-loop
+lower-requires c κs =
+    let s = c .before .before .before .before .before .before .before .before .before in
+    let l = c .before .before .before .loop in
+    laid-room (s .args .digits .now) _ (room s _) (l .words) (l .i) (l .at) _ (l .inv) (omega arith) (toZ-ofZ {w = w8} (record { sfits = c .before .lower-arg .given }))
+
+loop-less : tie.Need-loop-less Inv-loop μ-loop
+loop-less c = omega arith
+
+loop-again : tie.Need-loop-again Inv-loop μ-loop
+loop-again c =
+    let s = c .before .before .before .before .before .before .before .before .before .before .before .before in
+    let l = c .before .before .before .before .before .before .loop in
+    laid-down (s .args .digits .now) _ (room s _) (l .words) (l .i) (l .at) _ (l .inv) (omega arith) (toZ-ofZ {w = w8} (record { sfits = c .before .before .before .before .lower-arg .given })) _ _ (c .before .before .lower .ensures)
+
+same-length : tie.Need-same-length Inv-loop μ-loop
+same-length c =
+    let s = c .before .before .before .before .before .before .before in
+    laid-length (s .args .digits .now) _ (room s _) (c .before .loop .inv) ∙ length-set (s .args .words .now) 0 _
+
+returns-2 : tie.Need-returns-2 Inv-loop μ-loop
+returns-2 c =
+    let s = c .before .before .before .before .before .before .before in
+    laid-all (s .args .digits .now) (s .args .words .now) (s .pre .1) _ (c .before .loop .inv) (omega arith)
+
+pub write-spec : {M : Type 1} → statement M
+write-spec =
+    tie.close
+    (tie.spec
+    Inv-loop
+    μ-loop
+    returns
+    sub-i
+    shared-slice-copy-out-move-of
+    move-of-requires
+    encode-requires
+    slice-write-words
+    loop-holds
+    sub-i-2
+    shared-slice-copy-out-lower
+    lower-requires
+    loop-less
+    loop-again
+    same-length
+    returns-2)

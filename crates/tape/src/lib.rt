@@ -1,0 +1,242 @@
+// The step tape of a digit string: a word and the step that it decodes to, a scan of the string, and the call `tape`.
+ghost use mathlib.Core.Path.{_≡_};
+ghost use mathlib.Core.Logic.{_≢_};
+ghost use mathlib.Core.List.{_++_};
+ghost use Prim.Native.Nat.{_+_, _-_, _^_, _≤_, _<_};
+ghost use lib.IntN.{pos};
+ghost use lib.ListN.{length, drop};
+ghost use Rattle.meaning.specs.Digits.{nonzero, top};
+ghost use Rattle.meaning.specs.Taping.{word, tapeOf, Tape};
+ghost use Rattle.width.specs.Widths.{Lawful};
+ghost use Rattle.tape.specs.Steps.{minus, stepOf, wordOf, Coded, moveOf};
+ghost use Rattle.tape.specs.Scans.{Counted, Scan};
+ghost use Rattle.tape.specs.Places.{Lowered};
+use width::Known;
+use width::Width;
+
+// ---- words
+pub enum Sign {
+    Plus,
+    Minus,
+}
+
+// An entry of the odd multiples, with a sign.
+pub struct Move {
+    pub entry: u16,
+    pub sign: Sign,
+}
+
+// What a word says; `Bad` where its code is none or a double has an entry.
+pub enum Step {
+    Double,
+    Load(Move),
+    Add(Move),
+    Bad,
+}
+
+// What one more in a word's code adds to the word: the code stands over twelve bits of entry.
+const CODE: u16 = 4096;
+
+pub fn decode(word: u16) -> Step
+    ensures { λ r. ⌜ r ≡ stepOf word ⌝ }
+{
+    let code = word / CODE;
+    let entry = word % CODE;
+    match code {
+        0 => { if entry == 0 { Step::Double } else { Step::Bad } }
+        1 => Step::Load(Move {
+            entry,
+            sign: Sign::Plus,
+        }),
+        2 => Step::Load(Move {
+            entry,
+            sign: Sign::Minus,
+        }),
+        3 => Step::Add(Move {
+            entry,
+            sign: Sign::Plus,
+        }),
+        4 => Step::Add(Move {
+            entry,
+            sign: Sign::Minus,
+        }),
+        _ => Step::Bad,
+    }
+}
+
+// The word of a move whose code with a plus is `code`: with a minus it is the next.
+fn coded(code: u16, step: Move) -> u16
+    requires { ⌜ (code ≤ 3) × (step .entry < 4096) ⌝ }
+    ensures { λ r. ⌜ r ≡ word (code + minus (step .sign)) (step .entry) ⌝ }
+{
+    let sign = step.sign;
+    match sign {
+        Sign::Plus => code * CODE + step.entry,
+        Sign::Minus => (code + 1) * CODE + step.entry,
+    }
+}
+
+// A bad step's word is bad too: no step has the code 15.
+pub fn encode(step: Step) -> u16
+    requires { ⌜ Coded step ⌝ }
+    ensures { λ r. ⌜ r ≡ wordOf step ⌝ }
+{
+    match step {
+        Step::Double => 0,
+        Step::Load(m) => coded(1, m),
+        Step::Add(m) => coded(3, m),
+        Step::Bad => 15 * CODE,
+    }
+}
+
+// The move of a nonzero digit.
+fn move_of(digit: i8) -> Move
+    requires { ⌜ digit ≢ pos 0 ⌝ }
+    ensures { λ r. ⌜ r ≡ moveOf digit ⌝ }
+{
+    let entry = ((width::magnitude(digit) - 1) / 2) as u16;
+    if digit < 0 {
+        return Move {
+            entry,
+            sign: Sign::Minus,
+        };
+    }
+    Move {
+        entry,
+        sign: Sign::Plus,
+    }
+}
+
+// ---- a scan
+// The weight and the top of a string.
+pub struct Count {
+    pub weight: usize,
+    pub top: usize,
+}
+
+// What a scan finds: the lowest place whose digit the width does not have, or the counts of a string whose digits it has all.
+pub enum Found {
+    Bad(usize),
+    Sound(Count),
+}
+
+// The counts with one more place on top.
+fn counted(count: Count, place: usize, digit: i8) -> Count
+    requires { ⌜ (count .weight ≤ place) × (place + 1 < 2 ^ 64) ⌝ }
+    ensures { λ r. ⌜ Counted count place digit r ⌝ }
+{
+    if digit == 0 {
+        return count;
+    }
+    Count {
+        weight: count.weight + 1,
+        top: place + 1,
+    }
+}
+
+pub fn scan(width: Width, digits: &[i8]) -> Found
+    requires { ⌜ Lawful (width .bits) ⌝ }
+    ensures { λ r. ⌜ Scan (width .bits) (now (digits .entry)) r ⌝ }
+{
+    let mut count = Count { weight: 0, top: 0 };
+    let mut i = 0;
+    while i < digits.len() {
+        let digit = digits[i];
+        if !width.holds(digit) {
+            return Found::Bad(i);
+        }
+        count = counted(count, i, digit);
+        i += 1;
+    }
+    Found::Sound(count)
+}
+
+// ---- the call
+// The words of one place further down, from index `at` on. Gives the index after them.
+fn lower(digit: i8, at: usize, words: &mut [u16]) -> usize
+    requires { ⌜ at + 1 + nonzero digit ≤ length (now words) ⌝ }
+    ensures { λ r. ⌜ Lowered digit at (now (words .entry)) r (now (words .exit)) ⌝ }
+{
+    words[at] = encode(Step::Double);
+    if digit == 0 {
+        return at + 1;
+    }
+    words[at + 1] = encode(Step::Add(move_of(digit)));
+    at + 2
+}
+
+// Writes the words of a string whose top is `high`, from there down.
+fn write(digits: &[i8], high: usize, words: &mut [u16])
+    requires { ⌜ high ≡ top (now digits) ⌝ }
+    requires { ⌜ length (tapeOf (now digits)) ≤ length (now words) ⌝ }
+    ensures { λ _. ⌜ now (words .exit) ≡ tapeOf (now (digits .entry)) ++ drop (length (tapeOf (now (digits .entry)))) (now (words .entry)) ⌝ }
+{
+    if high == 0 {
+        return;
+    }
+    let mut i = high - 1;
+    words[0] = encode(Step::Load(move_of(digits[i])));
+    let mut at = 1;
+    while 0 < i {
+        i -= 1;
+        at = lower(digits[i], at, words);
+    }
+}
+
+// What is left of n without k, and 0 if k is more.
+fn without(n: usize, k: usize) -> usize
+    ensures { λ r. ⌜ r ≡ n - k ⌝ }
+{
+    if n < k { 0 } else { n - k }
+}
+
+// What a tape is: a refusal's number and place, or the counts of its words, doublings and additions.
+pub struct Taped {
+    pub refusal: u8,
+    pub place: u16,
+    pub words: u16,
+    pub doublings: u16,
+    pub additions: u16,
+}
+
+fn refused(number: u8, place: u16) -> Taped
+    ensures { λ r. ⌜ r ≡ record { refusal = number; place = place; words = 0; doublings = 0; additions = 0 } ⌝ }
+{
+    Taped {
+        refusal: number,
+        place,
+        words: 0,
+        doublings: 0,
+        additions: 0,
+    }
+}
+
+// The tape of a string: nothing is written before the string and the room for its words have been judged.
+pub fn tape(width: u8, digits: &[i8], words: &mut [u16]) -> Taped
+    ensures { λ r. ⌜ Tape width (now (digits .entry)) (now (words .entry)) (r .refusal) (r .place) (r .words) (r .doublings) (r .additions) (now (words .exit)) ⌝ }
+{
+    let Known::As(known) = Width::known(width) else {
+        return refused(2, 0);
+    };
+    if Width::MOST_PLACES < digits.len() {
+        return refused(7, 0);
+    }
+    match scan(known, digits) {
+        Found::Bad(place) => refused(8, place as u16),
+        Found::Sound(count) => {
+            let doublings = without(count.top, 1);
+            let needed = doublings + count.weight;
+            if words.len() < needed {
+                return refused(11, 0);
+            }
+            write(digits, count.top, words);
+            Taped {
+                refusal: 0,
+                place: 0,
+                words: needed as u16,
+                doublings: doublings as u16,
+                additions: without(count.weight, 1) as u16,
+            }
+        }
+    }
+}
