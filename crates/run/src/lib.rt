@@ -1,0 +1,212 @@
+// The run of a tape over residues modulo m: its words are judged, the odd multiples of the base stored, then the steps done.
+ghost use mathlib.Core.Path.{_≡_};
+ghost use mathlib.Core.List.{_++_};
+ghost use Prim.Native.Nat.{ℕ, _+_, _%_, _≤_, _<_};
+ghost use lib.Dec.{ltb};
+ghost use lib.ListN.{length, getD, drop};
+ghost use Rattle.meaning.specs.Taping.{mostWords};
+ghost use Rattle.meaning.specs.Running.{entries, multiplesOf};
+ghost use Rattle.width.specs.Widths.{Lawful};
+ghost use Rattle.run.specs.Outcomes.{refusal, Promise};
+ghost use Rattle.run.specs.Words.{Judged, Sifted};
+ghost use Rattle.run.specs.Walks.{residues, signed, entryIn, Held, Steady, Stepped, Reached};
+use tape::Move;
+use tape::Sign;
+use tape::Step;
+use width::Known;
+use width::Width;
+
+// ---- judging
+// Whether the width has the entry of a move.
+fn held(width: Width, step: Move) -> bool
+    requires { ⌜ Lawful (width .bits) ⌝ }
+    ensures { λ r. ⌜ r ≡ ltb (step .entry) (entries (width .bits)) ⌝ }
+{
+    (step.entry as usize) < width.entries()
+}
+
+// Whether a word is good at its index: the first is a load, and no other is.
+fn good(width: Width, index: usize, word: u16) -> bool
+    requires { ⌜ Lawful (width .bits) ⌝ }
+    ensures { λ r. ⌜ Judged (width .bits) index word r ⌝ }
+{
+    match tape::decode(word) {
+        Step::Double => index != 0,
+        Step::Load(m) => index == 0 && held(width, m),
+        Step::Add(m) => index != 0 && held(width, m),
+        Step::Bad => false,
+    }
+}
+
+// The index of the first bad word, or the count of words.
+fn first_bad(width: Width, words: &[u16]) -> usize
+    requires { ⌜ Lawful (width .bits) ⌝ }
+    ensures { λ r. ⌜ Sifted (width .bits) (now (words .entry)) r ⌝ }
+{
+    let mut i = 0;
+    while i < words.len() {
+        if !good(width, i, words[i]) {
+            return i;
+        }
+        i += 1;
+    }
+    i
+}
+
+// ---- residues
+// The residue of a residue and a number up to the modulus: no sum leaves 32 bits.
+fn plus(x: u32, y: u32, modulus: u32) -> u32
+    requires { ⌜ (x < modulus) × (y ≤ modulus) ⌝ }
+    ensures { λ r. ⌜ r ≡ (x + y) % modulus ⌝ }
+{
+    let room = modulus - y;
+    if x < room { x + y } else { x - room }
+}
+
+// Stores the odd multiples of the base.
+fn store(width: Width, modulus: u32, base: u32, multiples: &mut [u32])
+    requires { ⌜ Lawful (width .bits) ⌝ }
+    requires { ⌜ 0 < modulus ⌝ }
+    requires { ⌜ entries (width .bits) ≤ length (now multiples) ⌝ }
+    ensures { λ _. ⌜ now (multiples .exit) ≡ multiplesOf (width .bits) modulus base ++ drop (entries (width .bits)) (now (multiples .entry)) ⌝ }
+{
+    let count = width.entries();
+    let mut multiple = base % modulus;
+    let twice = plus(multiple, multiple, modulus);
+    let mut e = 0;
+    while e < count {
+        multiples[e] = multiple;
+        multiple = plus(multiple, twice, modulus);
+        e += 1;
+    }
+}
+
+// ---- steps
+// The residue reached, and the doublings and additions done.
+struct State {
+    value: u32,
+    doublings: u16,
+    additions: u16,
+}
+
+// A residue plus or minus the multiple of a move.
+fn moved(x: u32, step: Move, modulus: u32, multiples: &[u32]) -> u32
+    requires { ⌜ (x < modulus) × (step .entry < length (now multiples)) × (entryIn (now multiples) (step .entry) < modulus) ⌝ }
+    ensures { λ r. ⌜ r ≡ signed (residues modulus) x (step .sign) (entryIn (now (multiples .entry)) (step .entry)) ⌝ }
+{
+    let entry = step.entry as usize;
+    let multiple = multiples[entry];
+    let sign = step.sign;
+    match sign {
+        Sign::Plus => plus(x, multiple, modulus),
+        Sign::Minus => plus(x, modulus - multiple, modulus),
+    }
+}
+
+// One word's step.
+fn step(state: State, word: u16, modulus: u32, multiples: &[u32]) -> State
+    requires { ⌜ Steady modulus state ⌝ }
+    requires { ⌜ Held modulus (now multiples) word ⌝ }
+    ensures { λ r. ⌜ Stepped modulus (now (multiples .entry)) state word r ⌝ }
+{
+    match tape::decode(word) {
+        Step::Double => State {
+            value: plus(state.value, state.value, modulus),
+            doublings: state.doublings + 1,
+            additions: state.additions,
+        },
+        Step::Load(m) => State {
+            value: moved(0, m, modulus, multiples),
+            doublings: state.doublings,
+            additions: state.additions,
+        },
+        Step::Add(m) => State {
+            value: moved(state.value, m, modulus, multiples),
+            doublings: state.doublings,
+            additions: state.additions + 1,
+        },
+        Step::Bad => state,
+    }
+}
+
+// The state that the words reach.
+fn reach(words: &[u16], modulus: u32, multiples: &[u32]) -> State
+    requires { ⌜ (0 < modulus) × (length (now words) ≤ mostWords) ⌝ }
+    requires { ⌜ ((i : ℕ) → i < length (now words) → Held modulus (now multiples) (getD (now words) i 0)) ⌝ }
+    ensures { λ r. ⌜ Reached modulus (now (multiples .entry)) (now (words .entry)) r ⌝ }
+{
+    let mut state = State {
+        value: 0,
+        doublings: 0,
+        additions: 0,
+    };
+    let mut i = 0;
+    while i < words.len() {
+        state = step(state, words[i], modulus, multiples);
+        i += 1;
+    }
+    state
+}
+
+// ---- the call
+pub struct Refusal {
+    pub number: u8,
+    pub place: u16,
+}
+
+// The residue reached, or why nothing was done.
+pub enum Outcome {
+    Residue(u32),
+    Refused(Refusal),
+}
+
+// The outcome, the doublings and additions done, and what the multiples cost in additions.
+pub struct Ran {
+    pub outcome: Outcome,
+    pub doublings: u16,
+    pub additions: u16,
+    pub cost: u16,
+}
+
+fn refused(number: u8, place: u16) -> Ran
+    ensures { λ r. ⌜ r ≡ refusal number place ⌝ }
+{
+    Ran {
+        outcome: Outcome::Refused(Refusal { number, place }),
+        doublings: 0,
+        additions: 0,
+        cost: 0,
+    }
+}
+
+// The run of a tape: all its words are judged before a multiple is stored.
+pub fn run(width: u8, tape: &[u16], modulus: u32, base: u32, multiples: &mut [u32]) -> Ran
+    ensures { λ r. ⌜ Promise width (now (tape .entry)) modulus base (now (multiples .entry)) r (now (multiples .exit)) ⌝ }
+{
+    let Known::As(known) = Width::known(width) else {
+        return refused(2, 0);
+    };
+    if modulus == 0 {
+        return refused(12, 0);
+    }
+    if Width::MOST_WORDS < tape.len() {
+        return refused(13, 0);
+    }
+    let count = known.entries();
+    if multiples.len() < count {
+        return refused(14, 0);
+    }
+    let bad = first_bad(known, tape);
+    if bad < tape.len() {
+        return refused(15, bad as u16);
+    }
+    store(known, modulus, base, multiples);
+    let state = reach(tape, modulus, multiples);
+    let cost = (count - 1) as u16;
+    Ran {
+        outcome: Outcome::Residue(state.value),
+        doublings: state.doublings,
+        additions: state.additions,
+        cost,
+    }
+}
