@@ -1,0 +1,111 @@
+-- What a reader can see of the definitions by computing them: examples, each by `refl`, at which a slip in a definition would show. Nothing else is proved here.
+-- Assumes nothing.
+use mathlib.Core.Path.{_≡_, refl}
+use mathlib.Core.Bool.{true, false}
+use mathlib.Core.List.{List, [], _∷_}
+use Prim.Native.Nat.{ℕ}
+use lib.Count.{trailingZeros}
+use lib.Dec.{lit≤}
+use lib.IntN.{ℤ, pos, negsuc}
+use Rattle.meaning.specs.Scalars.{number}
+use Rattle.meaning.specs.Digits.{inSet, largest, nonzero, worth, weight, top, listed}
+use Rattle.meaning.specs.Mof.{mof}
+use Rattle.meaning.specs.Windows.{windowWorth, shrink, entryUnit, entryTwos}
+use Rattle.meaning.specs.Wmof.{wmofUnder, wmof}
+use Rattle.meaning.specs.Closest.{larger, smaller, Favours}
+use Rattle.meaning.specs.Recoding.{marked, marksOf}
+use Rattle.meaning.specs.Taping.{loads, adds, down, tapeOf, stepped, valueFrom, tapeValue}
+use Rattle.meaning.specs.Reading.{digit, done, readAt}
+use Rattle.meaning.specs.Lines.{nibble, allHex, bytesOf, malformed, written, byteOf, digitBytes, acceptedBytes, linesOf}
+
+-- 13 as 1 0 -1 0 1, on the nine places of a byte
+thirteen : List ℤ
+thirteen = pos 1 ∷ pos 0 ∷ negsuc 0 ∷ pos 0 ∷ pos 1 ∷ pos 0 ∷ pos 0 ∷ pos 0 ∷ pos 0 ∷ []
+
+-- bytes come highest first
+big-endian : number (1 ∷ 93 ∷ []) ≡ 349
+unfolding number
+big-endian = refl
+
+-- 4 is no digit of width 4, and -7 is
+no-half : inSet (largest 4) (pos 4) ≡ false
+unfolding inSet
+no-half = refl
+
+has-seven : inSet (largest 4) (negsuc 6) ≡ true
+unfolding inSet
+has-seven = refl
+
+-- a string's worth, weight and top; a negative digit counts as one
+its-worth : worth thirteen ≡ pos 13
+unfolding thirteen worth
+its-worth = refl
+
+its-weight : weight thirteen ≡ 3
+unfolding thirteen weight nonzero
+its-weight = refl
+
+its-top : top thirteen ≡ 5
+unfolding thirteen top nonzero
+its-top = refl
+
+-- MOF of 13: 1 0 -1 1 -1
+its-mof : mof 13 8 ≡ negsuc 0 ∷ pos 1 ∷ negsuc 0 ∷ pos 0 ∷ pos 1 ∷ pos 0 ∷ pos 0 ∷ pos 0 ∷ pos 0 ∷ []
+unfolding mof listed
+its-mof = refl
+
+-- wMOF of 13 at width 2: 1 0 0 -1 -1, the last by a short window
+its-wmof : wmof 2 13 8 ≡ negsuc 0 ∷ negsuc 0 ∷ pos 0 ∷ pos 0 ∷ pos 1 ∷ pos 0 ∷ pos 0 ∷ pos 0 ∷ pos 0 ∷ []
+unfolding wmof wmofUnder windowWorth shrink trailingZeros
+its-wmof = refl
+
+-- a window may be worth 2 ^ (w - 1): it is 1, further up
+half-window : (entryUnit 3 7 ≡ pos 1) × (entryTwos 3 7 ≡ 2)
+unfolding entryUnit entryTwos windowWorth shrink trailingZeros
+half-window = (refl, refl)
+
+-- the two tie rules, at -3 between -2 and -4
+takes-larger : Favours larger (negsuc 3) (negsuc 1)
+unfolding Favours
+takes-larger = lit≤ tt
+
+takes-smaller : Favours smaller (negsuc 1) (negsuc 3)
+unfolding Favours
+takes-smaller = lit≤ tt
+
+-- marks of places 0, 2 and 4
+its-marks : marksOf thirteen ≡ 21 ∷ 0 ∷ 0 ∷ 0 ∷ 0 ∷ 0 ∷ 0 ∷ 0 ∷ 0 ∷ []
+unfolding thirteen marksOf marked listed nonzero
+its-marks = refl
+
+-- load 1, double, double, subtract 1, double, double, add 1; its value is the worth
+its-tape : tapeOf thirteen ≡ 0x1000 ∷ 0 ∷ 0 ∷ 0x4000 ∷ 0 ∷ 0 ∷ 0x3000 ∷ []
+unfolding thirteen tapeOf down loads adds
+its-tape = refl
+
+its-value : tapeValue (tapeOf thirteen) ≡ pos 13
+unfolding thirteen tapeOf down loads adds valueFrom stepped
+its-value = refl
+
+-- a reader gives a digit a call, then done
+read-on : readAt (pos 1 ∷ negsuc 0 ∷ []) 1 ≡ digit (negsuc 0)
+unfolding readAt
+read-on = refl
+
+read-out : readAt (pos 1 ∷ negsuc 0 ∷ []) 2 ≡ done
+unfolding readAt
+read-out = refl
+
+-- two lines, the second without a line feed; `0202010D` is well formed, and what follows is the answer to it without its line feed
+its-lines : linesOf (48 ∷ 10 ∷ 49 ∷ []) ≡ (48 ∷ []) ∷ (49 ∷ []) ∷ []
+unfolding linesOf
+its-lines = refl
+
+well-formed : malformed (48 ∷ 50 ∷ 48 ∷ 50 ∷ 48 ∷ 49 ∷ 48 ∷ 68 ∷ []) ≡ false
+unfolding malformed allHex nibble bytesOf
+well-formed = refl
+
+its-answer : written (acceptedBytes thirteen)
+    ≡ 48 ∷ 48 ∷ 48 ∷ 48 ∷ 48 ∷ 51 ∷ 48 ∷ 48 ∷ 48 ∷ 53 ∷ 48 ∷ 49 ∷ 48 ∷ 48 ∷ 70 ∷ 70 ∷ 48 ∷ 48 ∷ 48 ∷ 49 ∷ 48 ∷ 48 ∷ 48 ∷ 48 ∷ 48 ∷ 48 ∷ 48 ∷ 48 ∷ []
+unfolding thirteen written digitBytes byteOf weight top nonzero
+its-answer = refl
