@@ -21,6 +21,17 @@ use Rattle.forms.proofs.Taken.{takes-worth, takes-digits, takes-same}
 use Rattle.forms.proofs.Ties.{closest-is}
 use Rattle.forms.proofs.Weights.{Light, wnaf-light, wmof-light, closest-light, light-least, light-bound}
 
+module _ (w N n : ℕ) (two : 2 ≤ w) where
+  -- one string only
+  pub form-same : (f : ℕ) (ds es : List ℤ) → Form f w N n ds → Form f w N n es → ds ≡ es
+  unfolding Form
+  form-same zero ds es a b = absurd a
+  form-same (suc zero) ds es a b = a ∙ sym b
+  form-same (suc (suc zero)) ds es a b = wnaf-same w N n two a b
+  form-same (suc (suc (suc zero))) ds es a b = a ∙ sym b
+  form-same (suc (suc (suc (suc zero)))) ds es a b = takes-same two (a .taken) (b .taken) refl (a .length-is ∙ sym (b .length-is))
+  form-same (suc (suc (suc (suc (suc f))))) ds es a b = absurd a
+
 module _ (w N n : ℕ) (two : 2 ≤ w) (small : N < 2 ^ n) where
   -- n + 1 places always suffice: number 6 never happens
   pub form-exists : (f : ℕ) → 1 ≤ f → f ≤ 4 → (ds : List ℤ) × Form f w N n ds
@@ -31,16 +42,6 @@ module _ (w N n : ℕ) (two : 2 ≤ w) (small : N < 2 ^ n) where
   form-exists (suc (suc (suc zero))) h k = (wmof w N n, refl)
   form-exists (suc (suc (suc (suc zero)))) h k = (closestOf larger w N n, closest-is larger w N n two small)
   form-exists (suc (suc (suc (suc (suc f))))) h k = absurd (omega arith)
-
-  -- one string only
-  pub form-same : (f : ℕ) (ds es : List ℤ) → Form f w N n ds → Form f w N n es → ds ≡ es
-  unfolding Form
-  form-same zero ds es a b = absurd a
-  form-same (suc zero) ds es a b = a ∙ sym b
-  form-same (suc (suc zero)) ds es a b = wnaf-same w N n two a b
-  form-same (suc (suc (suc zero))) ds es a b = a ∙ sym b
-  form-same (suc (suc (suc (suc zero)))) ds es a b = takes-same two (a .taken) (b .taken) refl (a .length-is ∙ sym (b .length-is))
-  form-same (suc (suc (suc (suc (suc f))))) ds es a b = absurd a
 
   pub form-length : (f : ℕ) (ds : List ℤ) → Form f w N n ds → length ds ≡ n + 1
   unfolding Form

@@ -11,7 +11,7 @@ use lib.Dec.{T}
 use lib.IntN.{ℤ, pos, negsuc}
 use lib.ListN.{length, getD, take, drop}
 use lib.Seq.{take-suc, take-all, length-take-le}
-use Rattle.laws.proofs.Choices.{and-of}
+use Rattle.laws.proofs.Choices.{and-of, and-both}
 use Rattle.meaning.specs.Digits.{largest, inSet, allIn, nonzero, weight, over, top}
 
 -- ---- a digit
@@ -92,3 +92,10 @@ pub all-in : (m : ℕ) (ds : List ℤ) → ((i : ℕ) → i < length ds → T (i
 unfolding allIn
 all-in m [] f = tt
 all-in m (d ∷ ds) f = and-of (inSet m d) (allIn m ds) (f 0 (omega arith)) (all-in m ds (λ i h. f (suc i) (omega arith)))
+
+-- and each of them is
+pub all-at : (m : ℕ) (ds : List ℤ) → T (allIn m ds) → (i : ℕ) → i < length ds → T (inSet m (getD ds i (pos 0)))
+unfolding allIn
+all-at m [] t i h = absurd (omega arith)
+all-at m (d ∷ ds) t zero h = and-both (inSet m d) (allIn m ds) t .0
+all-at m (d ∷ ds) t (suc i) h = all-at m ds (and-both (inSet m d) (allIn m ds) t .1) i (omega arith)

@@ -1,0 +1,98 @@
+-- Any number of calls of a reader made from any input: the call after k others gives what document 01's sequence has at k, done for ever past its end, and in
+-- a refusal at once. `answer-at` says it of `new` and `next` by their promises alone. Assumes nothing.
+use mathlib.Core.Path.{_≡_, refl, sym, ap, subst, _∙_}
+use mathlib.Core.Logic.{_≢_}
+use mathlib.Core.List.{List, [], _∷_}
+use Prim.Native.Nat.{ℕ, zero, suc, _+_, _≤_}
+use native.Mathlib.Omega.{arith}
+use denote.Ref.{RefT, now}
+use lib.IntN.{ℤ}
+use lib.ListN.{length, length-reverse}
+use Rattle.meaning.specs.Scalars.{number, bitCount}
+use Rattle.meaning.specs.Wmof.{wmof}
+use Rattle.meaning.specs.Reading.{Holds, sequence, done, readAt}
+use Rattle.forms.proofs.Refusals.{kept-lent}
+use Rattle.reader.specs.declared.Next.{Next}
+use Rattle.reader.specs.declared.Next.the-variants.{Digit, Done}
+use Rattle.reader.specs.declared.Reader.{Reader}
+use Rattle.reader.specs.declared.State.{State}
+use Rattle.reader.specs.declared.Taken.{Taken}
+use Rattle.reader.specs.States.{starting, call, moved, after, After}
+use Rattle.reader.specs.Calls.{readOf, stateOf, readerOf, Made, Called}
+use Rattle.reader.proofs.Starts.{held-lawful, held-short}
+use Rattle.reader.proofs.Stands.{given, given-done, size, reads-all}
+
+-- ---- document 01's sequence
+-- it has n + 1 digits
+pub sequence-length : (w : ℕ) (s : List ℕ) → Holds w s 0 → length (sequence 0 w s) ≡ bitCount s + 1
+sequence-length w s h = length-reverse (wmof w (number s) (bitCount s)) ∙ size w s (held-lawful w s h) (held-short w s h)
+
+-- past its end there is nothing
+pub read-past : (ds : List ℤ) (k : ℕ) → length ds ≤ k → readAt ds k ≡ done
+unfolding readAt
+read-past [] k h = refl
+read-past (d ∷ ds) zero h = absurd (omega arith)
+read-past (d ∷ ds) (suc k) h = read-past ds k (omega arith)
+
+-- ---- states
+reads-at : (r w : ℕ) (s : List ℕ) → Holds w s r → (k : ℕ) → given s (starting r w s) k ≡ readAt (sequence r w s) k
+unfolding readAt
+reads-at zero w s h k = reads-all w s (held-lawful w s h) (held-short w s h) k
+reads-at (suc r) w s h k = given-done s (starting (suc r) w s) refl k
+
+module _ {w : ℕ} {s : List ℕ} where
+  -- a call more
+  pub after-call : {k : ℕ} {q : State} → After w s k q → After w s (suc k) (moved q (call s q))
+  unfolding after
+  after-call A = record { holds = A .holds; state-is = ap (λ x. moved x (call s x)) (A .state-is) }
+
+  -- what it gives
+  pub after-reads : {k : ℕ} {q : State} → After w s k q → readOf (call s q .next) ≡ readAt (sequence (q .refusal) w s) k
+  after-reads {k} {q} A = ap (λ x. readOf (call s x .next)) (A .state-is) ∙ reads-at (q .refusal) w s (A .holds) k
+
+-- ---- readers
+-- `next` keeps its promise where it takes t and stores it
+pub calls : (before : Reader) (t : Taken) → t ≡ call (now (before .scalar)) (stateOf before) → Called before (readerOf (before .scalar) (moved (stateOf before) t)) (t .next)
+calls before t e =
+    record {
+      next-is = ap (λ x. x .next) e;
+      after-is = ap (λ x. readerOf (before .scalar) (moved (stateOf before) x)) e;
+      reads = λ w k A. ap (λ x. readOf (x .next)) e ∙ after-reads A;
+      counts = λ w k A. subst (λ x. After w (now (before .scalar)) (suc k) (moved (stateOf before) x)) (sym e) (after-call A);
+    }
+
+-- done is done
+is-done : (n : Next) → readOf n ≡ done → n ≡ Done
+is-done (Digit d) e = absurd (let z : _≡_ {A = ℕ} 0 1 = cc in omega arith)
+is-done Done e = refl
+
+-- a reader made by `new` from w and s, and all that `next` makes of it and gives
+module _ (w : ℕ) (s : RefT (List ℕ)) (readers : ℕ → Reader) (answers : ℕ → Next) (made : Made w s (readers 0)) (called : (k : ℕ) → Called (readers k) (readers (suc k)) (answers k)) where
+  -- the scalar stays lent
+  pub scalar-at : (k : ℕ) → readers k .scalar ≡ s
+  scalar-at zero = made .scalar-is
+  scalar-at (suc k) = ap (λ r. r .scalar) (called k .after-is) ∙ scalar-at k
+
+  -- the number stays held
+  pub refusal-at : (k : ℕ) → readers k .refusal ≡ readers 0 .refusal
+  refusal-at zero = refl
+  refusal-at (suc k) = ap (λ r. r .refusal) (called k .after-is) ∙ refusal-at k
+
+  -- the reader has been called k times
+  pub state-at : (k : ℕ) → After w (now s) k (stateOf (readers k))
+  state-at zero = made .state-is
+  state-at (suc k) = (rw (scalar-at k) at (called k .counts w k)) (state-at k)
+
+  -- and the next call gives its sequence's digit at k
+  pub answer-at : (k : ℕ) → readOf (answers k) ≡ readAt (sequence (readers 0 .refusal) w (now s)) k
+  answer-at k = rw (refusal-at k) at ((rw (scalar-at k) at (called k .reads w k)) (state-at k))
+
+  -- past the end, done
+  pub done-past : (k : ℕ) → length (sequence (readers 0 .refusal) w (now s)) ≤ k → answers k ≡ Done
+  done-past k h = is-done (answers k) (answer-at k ∙ read-past (sequence (readers 0 .refusal) w (now s)) k h)
+
+  -- in a refusal, done at once
+  pub done-refused : readers 0 .refusal ≢ 0 → (k : ℕ) → answers k ≡ Done
+  done-refused n k =
+      let e : length (sequence (readers 0 .refusal) w (now s)) ≡ 0 = ap length (kept-lent (readers 0 .refusal) (sequence 0 w (now s)) [] n) in
+      done-past k (omega arith)

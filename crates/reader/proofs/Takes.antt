@@ -1,0 +1,57 @@
+-- What a call takes, case by case.
+-- Assumes nothing.
+use mathlib.Core.Path.{_≡_, _∙_}
+use mathlib.Core.Logic.{_≢_, _⊎_, inl, inr}
+use mathlib.Core.List.{List}
+use Prim.Native.Nat.{ℕ, suc, _-_, _≤_, _<_}
+use native.Mathlib.Omega.{arith}
+use lib.IntN.{ℤ, pos}
+use borrow.Author.Tests.{lt-ltb, le-ltb, le-leb, lt-leb, eq-eqb, ne-eqb}
+use Rattle.meaning.specs.Scalars.{number, bit, below}
+use Rattle.meaning.specs.Digits.{leastWidth, mostWidth, mostPlaces}
+use Rattle.meaning.specs.Windows.{oddPart}
+use Rattle.meaning.specs.Wmof.{windowAt, spot}
+use Rattle.width.specs.Widths.{Lawful}
+use Rattle.reader.specs.declared.Taken.{Taken}
+use Rattle.reader.specs.States.{passed, opened, ended, taken}
+
+-- ---- where no window is open
+module _ (w N i : ℕ) where
+  -- equal bits
+  pub opened-none : {r : Taken} {f : ℕ} → r ≡ passed i (pos 0) 0 f → bit N i ≡ below N i → f ≡ i → r ≡ opened w N i
+  unfolding opened
+  opened-none t e l = t ∙ rw l (simp (eq-eqb _ _ e))
+
+  -- a window
+  pub opened-some : {r : Taken} {u : ℤ} {p f : ℕ} → r ≡ passed i u p f → bit N i ≢ below N i → u ≡ oddPart w (windowAt w N i) → p ≡ spot w i (windowAt w N i) → f ≡ suc i - w
+      → r ≡ opened w N i
+  unfolding opened
+  opened-some t d e k l = t ∙ rw (e, k, l) (simp (ne-eqb _ _ d))
+
+-- ---- a call
+module _ (s : List ℕ) (m w : ℕ) (d : ℤ) (p f : ℕ) where
+  -- inside a window
+  pub takes-inside : f < m → passed (m - 1) d p f ≡ taken s m w d p f
+  unfolding taken
+  takes-inside h = simp (lt-ltb _ _ h)
+
+  -- where one can open
+  pub takes-opened : m ≤ f → 0 < m → m ≤ mostPlaces → Lawful w → opened w (number s) (m - 1) ≡ taken s m w d p f
+  unfolding taken
+  takes-opened h a b l = simp (le-ltb _ _ h, lt-ltb _ _ a, le-leb _ _ b, le-leb _ _ (l .0), le-leb _ _ (l .1))
+
+  -- no place to come
+  pub takes-none : m ≤ 0 → ended d p f ≡ taken s m w d p f
+  unfolding taken
+  takes-none h = simp (le-ltb f m (omega arith), le-ltb 0 m h)
+
+  -- more than any string has
+  pub takes-over : m ≤ f → mostPlaces < m → ended d p f ≡ taken s m w d p f
+  unfolding taken
+  takes-over h b = simp (le-ltb _ _ h, lt-ltb 0 m (omega arith), lt-leb _ _ b)
+
+  -- no width
+  pub takes-bad : m ≤ f → 0 < m → m ≤ mostPlaces → (w < leastWidth) ⊎ (mostWidth < w) → ended d p f ≡ taken s m w d p f
+  unfolding taken
+  takes-bad h a b (inl l) = simp (le-ltb _ _ h, lt-ltb _ _ a, le-leb _ _ b, lt-leb _ _ l)
+  takes-bad h a b (inr l) = simp (le-ltb _ _ h, lt-ltb _ _ a, le-leb _ _ b, le-leb leastWidth w (omega arith), lt-leb _ _ l)

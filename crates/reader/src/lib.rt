@@ -1,0 +1,220 @@
+// The reader: wMOF of a lent scalar one digit a call, places n down to 0, then done at every later call. `step` does the work on a plain slice and
+// numbers, and a reader's own functions only take it apart. Whoever calls `read_at`, or `start`, `call` and `moved`, needs no walk by hand.
+ghost use mathlib.Core.Path.{_≡_};
+ghost use Prim.Native.Nat.{_-_, _≤_, _<_};
+ghost use Rattle.meaning.specs.Scalars.{number};
+ghost use Rattle.meaning.specs.Digits.{mostPlaces};
+ghost use Rattle.width.specs.Widths.{Lawful};
+ghost use Rattle.reader.specs.States.{digitAt, ready, passed, opened, taken, call, moved, After};
+ghost use Rattle.reader.specs.Calls.{Made, Called, Answered};
+use width::Known;
+use width::Width;
+
+// What a call gives.
+pub enum Next {
+    Digit(i8),
+    Done,
+}
+
+// `place` counts the places to come. Those from `floor` up belong to one window: its digit, `pending`, stands at `spot`, and a 0 at each other place.
+pub struct Reader<'a> {
+    pub scalar: &'a [u8],
+    pub place: usize,
+    pub width: u8,
+    pub pending: i8,
+    pub spot: usize,
+    pub floor: usize,
+    pub refusal: u8,
+}
+
+// A reader without its scalar.
+pub struct State {
+    pub place: usize,
+    pub width: u8,
+    pub pending: i8,
+    pub spot: usize,
+    pub floor: usize,
+    pub refusal: u8,
+}
+
+// What a call gives, and what it changes in the state.
+pub struct Taken {
+    pub next: Next,
+    pub place: usize,
+    pub pending: i8,
+    pub spot: usize,
+    pub floor: usize,
+}
+
+// The number that a reader holds, and what one of its calls gives.
+pub struct Reading {
+    pub refusal: u8,
+    pub next: Next,
+}
+
+// Before any call: no window is open yet over the `places` to come.
+fn ready(refusal: u8, width: u8, places: usize) -> State
+    ensures { λ r. ⌜ r ≡ ready refusal width places ⌝ }
+{
+    State {
+        place: places,
+        width,
+        pending: 0,
+        spot: 0,
+        floor: places,
+        refusal,
+    }
+}
+
+// Refused input leaves no place to come.
+pub fn start(width: u8, scalar: &[u8]) -> State
+    ensures { λ r. ⌜ After width (now (scalar .entry)) 0 r ⌝ }
+{
+    if let Known::As(_) = Width::known(width) {
+        if scalar::MOST_BYTES < scalar.len() {
+            return ready(3, width, 0);
+        }
+        return ready(0, width, 8 * scalar.len() + 1);
+    }
+    ready(2, width, 0)
+}
+
+// The digit at place i of a window.
+fn digit_at(i: usize, pending: i8, spot: usize) -> i8
+    ensures { λ r. ⌜ r ≡ digitAt i pending spot ⌝ }
+{
+    if i == spot { pending } else { 0 }
+}
+
+// The highest place to come is passed.
+fn pass(place: usize, pending: i8, spot: usize, floor: usize) -> Taken
+    requires { ⌜ 0 < place ⌝ }
+    ensures { λ r. ⌜ r ≡ passed (place - 1) pending spot floor ⌝ }
+{
+    let i = place - 1;
+    Taken {
+        next: Next::Digit(digit_at(i, pending, spot)),
+        place: i,
+        pending,
+        spot,
+        floor,
+    }
+}
+
+// The same where no window is open: one opens over the places to come, or one place alone is passed.
+fn opening(w: Width, scalar: &[u8], place: usize) -> Taken
+    requires { ⌜ Lawful (w .bits) ⌝ }
+    requires { ⌜ (0 < place) × (place ≤ mostPlaces) ⌝ }
+    ensures { λ r. ⌜ r ≡ opened (w .bits) (number (now (scalar .entry))) (place - 1) ⌝ }
+{
+    let found = windows::opening::find(w, scalar, place);
+    if found.opens {
+        return pass(place, found.unit, found.spot, found.left);
+    }
+    pass(place, 0, 0, found.left)
+}
+
+// One call. A state that was made up elsewhere is done where no window can open.
+pub fn step(scalar: &[u8], place: usize, width: u8, pending: i8, spot: usize, floor: usize) -> Taken
+    ensures { λ r. ⌜ r ≡ taken (now (scalar .entry)) place width pending spot floor ⌝ }
+{
+    if floor < place {
+        return pass(place, pending, spot, floor);
+    }
+    if 0 < place {
+        if place <= Width::MOST_PLACES {
+            if let Known::As(w) = Width::known(width) {
+                return opening(w, scalar, place);
+            }
+        }
+    }
+    Taken {
+        next: Next::Done,
+        place: 0,
+        pending,
+        spot,
+        floor,
+    }
+}
+
+// One call on a state.
+pub fn call(scalar: &[u8], state: State) -> Taken
+    ensures { λ r. ⌜ r ≡ call (now (scalar .entry)) state ⌝ }
+{
+    step(
+        scalar,
+        state.place,
+        state.width,
+        state.pending,
+        state.spot,
+        state.floor,
+    )
+}
+
+// The state after it.
+pub fn moved(state: State, taken: Taken) -> State
+    ensures { λ r. ⌜ r ≡ moved state taken ⌝ }
+{
+    State {
+        place: taken.place,
+        width: state.width,
+        pending: taken.pending,
+        spot: taken.spot,
+        floor: taken.floor,
+        refusal: state.refusal,
+    }
+}
+
+// What `Reader::new` and the call of `Reader::next` after `calls` others give, for a caller that holds no reader.
+pub fn read_at(width: u8, scalar: &[u8], calls: u16) -> Reading
+    ensures { λ r. ⌜ Answered width (now (scalar .entry)) calls r ⌝ }
+{
+    let mut state = start(width, scalar);
+    let mut k: u16 = 0;
+    while k < calls {
+        let taken = call(scalar, state);
+        state = moved(state, taken);
+        k += 1;
+    }
+    let taken = call(scalar, state);
+    let next = taken.next;
+    Reading {
+        refusal: state.refusal,
+        next,
+    }
+}
+
+impl<'a> Reader<'a> {
+    pub fn new(width: u8, scalar: &'a [u8]) -> Reader<'a>
+        ensures { λ r. ⌜ Made width (scalar .entry) r ⌝ }
+    {
+        let state = start(width, scalar);
+        Reader {
+            scalar,
+            place: state.place,
+            width: state.width,
+            pending: state.pending,
+            spot: state.spot,
+            floor: state.floor,
+            refusal: state.refusal,
+        }
+    }
+
+    pub fn next(&mut self) -> Next
+        ensures { λ r. ⌜ Called (now (self .entry)) (now (self .exit)) r ⌝ }
+    {
+        let taken = step(
+            self.scalar,
+            self.place,
+            self.width,
+            self.pending,
+            self.spot,
+            self.floor,
+        );
+        self.place = taken.place;
+        self.pending = taken.pending;
+        self.spot = taken.spot;
+        self.floor = taken.floor;
+        taken.next
+    }
+}
