@@ -1,0 +1,316 @@
+-- The known strings P1 to P12: a single list of cases, and one theorem that covers it. What the promise of recode, of tape and of run determines at each case
+-- is the listed answer. Assumes nothing.
+use mathlib.Core.Path.{_≡_, refl, sym, ap, subst, _∙_}
+use mathlib.Core.Logic.{_≢_, _⊎_, inl, inr, ⊎-elim}
+use mathlib.Core.Bool.{Bool, not, _&&_, _||_}
+use mathlib.Core.List.{List, [], _∷_, _++_}
+use Prim.Native.Nat.{ℕ, zero, suc, _+_, _-_, _*_, _^_, _<_, _≤_}
+use native.Mathlib.Omega.{arith}
+use lib.Count.{trailingZeros}
+use lib.Dec.{T, leb, eqb, leb→le, eqb→eq, T-not, lit<, lit≤}
+use Rattle.laws.proofs.Choices.{and-both, or-either, equal}
+use lib.IntN.{ℤ, pos, negsuc, _*ℤ_}
+use lib.ListN.{length, getD, drop, replicate}
+use Rattle.meaning.specs.Scalars.{number, bitCount}
+use Rattle.meaning.specs.Digits.{nonzero, weight, top, listed, inSet, allIn, largest}
+use Rattle.meaning.specs.Mof.{mof}
+use Rattle.meaning.specs.Windows.{windowWorth, shrink}
+use Rattle.meaning.specs.Wmof.{wmofUnder, wmof}
+use Rattle.meaning.specs.Closest.{larger}
+use Rattle.meaning.specs.Forms.{Form}
+use Rattle.meaning.specs.Recoding.{markWords, marksOf}
+use Rattle.forms.specs.Wnaf.{wnafDigit, wnafNext, wnafFrom}
+use Rattle.forms.specs.Closest.{closestUnder, closestOf}
+use Rattle.recoder.specs.declared.Tally.{Tally}
+use Rattle.recoder.specs.Judged.{Allowed}
+use Rattle.recoder.proofs.Judging.{refuses-none}
+use Rattle.recoder.proofs.Formed.{is-mof, is-wnaf, is-wmof, is-closest}
+use Rattle.width.specs.Widths.{Lawful}
+use Rattle.forms.proofs.Strings.{all-at}
+use Rattle.meaning.specs.Refusals.{plain, lowest}
+use Rattle.meaning.specs.Checking.{BadDigit}
+use Rattle.meaning.specs.Taping.{loads, adds, down, tapeOf, stepped, valueFrom, tapeValue, doublings, additions}
+use Rattle.meaning.specs.Running as Residues
+use Rattle.meaning.specs.Running.{entries, BadWord, multiplesOf}
+use Rattle.tape.proofs.Lengths.{tape-fits}
+use Rattle.tape.proofs.Tapes.{tape-doublings, tape-additions, tape-good}
+use Rattle.run.specs.declared.Ran.{Ran}
+use Rattle.run.specs.declared.Outcome.the-variants.{Residue}
+use Rattle.run.specs.Outcomes.{Promise}
+use Rattle.promises.proofs.Recode.{Outcome, Keeps, recode-determined}
+use Rattle.promises.proofs.Tape as Taping
+use Rattle.promises.proofs.Tape.{tape-determined}
+use Rattle.promises.proofs.Run.{run-determined}
+
+-- every element of a list
+abbrev pub All : {A : Type 0} → (A → Type 0) → List A → Type 0
+All P [] = Unit {0}
+All P (x ∷ xs) = P x × All P xs
+
+-- a string in some forms of one width; or a string's tape, and its run at a modulus and a base
+pub data Case : Type 0 where
+  string : (forms : List ℕ) (w : ℕ) (s : List ℕ) (ds : List ℤ) → Case
+  steps : (w : ℕ) (ds : List ℤ) (ws : List ℕ) (m g x doubled added : ℕ) (multiples : List ℕ) → Case
+
+-- zeros above the digits that are written out
+abbrev zeros : ℕ → List ℤ
+zeros n = replicate n (pos 0)
+
+-- P1 to P10, place 0 first, on all places that the scalar's bytes give; then P11 and P12, the tapes of P2 and P5 and their runs
+pub cases : List Case
+cases =
+    string (1 ∷ []) 2 (13 ∷ []) (negsuc 0 ∷ pos 1 ∷ negsuc 0 ∷ pos 0 ∷ pos 1 ∷ zeros 4)
+    ∷ string (2 ∷ []) 2 (13 ∷ []) (pos 1 ∷ pos 0 ∷ negsuc 0 ∷ pos 0 ∷ pos 1 ∷ zeros 4)
+    ∷ string (3 ∷ []) 2 (13 ∷ []) (negsuc 0 ∷ negsuc 0 ∷ pos 0 ∷ pos 0 ∷ pos 1 ∷ zeros 4)
+    ∷ string (4 ∷ []) 2 (13 ∷ []) (pos 1 ∷ pos 0 ∷ negsuc 0 ∷ pos 0 ∷ pos 1 ∷ zeros 4)
+    ∷ string (2 ∷ 3 ∷ 4 ∷ []) 3 (42 ∷ []) (pos 0 ∷ negsuc 2 ∷ pos 0 ∷ pos 0 ∷ pos 3 ∷ zeros 4)
+    ∷ string (2 ∷ []) 4 (1 ∷ 93 ∷ []) (negsuc 2 ∷ zeros 4 ++ (negsuc 4 ∷ zeros 3 ++ (pos 1 ∷ zeros 7)))
+    ∷ string (3 ∷ 4 ∷ []) 4 (1 ∷ 93 ∷ []) (pos 1 ∷ pos 0 ∷ pos 7 ∷ zeros 3 ++ (pos 5 ∷ zeros 10))
+    ∷ string (2 ∷ 3 ∷ 4 ∷ []) 8 (255 ∷ []) (negsuc 0 ∷ zeros 7 ++ (pos 1 ∷ []))
+    ∷ string (1 ∷ 2 ∷ 3 ∷ 4 ∷ []) 2 [] (pos 0 ∷ [])
+    ∷ string (2 ∷ 3 ∷ 4 ∷ []) 3 [] (pos 0 ∷ [])
+    ∷ string (2 ∷ 3 ∷ 4 ∷ []) 4 [] (pos 0 ∷ [])
+    ∷ string (2 ∷ 3 ∷ 4 ∷ []) 5 [] (pos 0 ∷ [])
+    ∷ string (2 ∷ 3 ∷ 4 ∷ []) 6 [] (pos 0 ∷ [])
+    ∷ string (2 ∷ 3 ∷ 4 ∷ []) 7 [] (pos 0 ∷ [])
+    ∷ string (2 ∷ 3 ∷ 4 ∷ []) 8 [] (pos 0 ∷ [])
+    ∷ string (1 ∷ []) 2 (3 ∷ []) (negsuc 0 ∷ pos 0 ∷ pos 1 ∷ zeros 6)
+    ∷ steps 2 (pos 1 ∷ pos 0 ∷ negsuc 0 ∷ pos 0 ∷ pos 1 ∷ zeros 4) (0x1000 ∷ 0 ∷ 0 ∷ 0x4000 ∷ 0 ∷ 0 ∷ 0x3000 ∷ []) 1000 7 91 4 2 (7 ∷ [])
+    ∷ steps 3 (pos 0 ∷ negsuc 2 ∷ pos 0 ∷ pos 0 ∷ pos 3 ∷ zeros 4) (0x1001 ∷ 0 ∷ 0 ∷ 0 ∷ 0x4001 ∷ 0 ∷ []) 10 9 8 4 1 (9 ∷ 7 ∷ [])
+    ∷ []
+
+-- the string of a form, computed
+stringOf : (form w N n : ℕ) → List ℤ
+stringOf (suc zero) w N n = mof N n
+stringOf (suc (suc zero)) w N n = wnafFrom w (n + 1) N
+stringOf (suc (suc (suc zero))) w N n = wmof w N n
+stringOf (suc (suc (suc (suc zero)))) w N n = closestOf larger w N n
+stringOf zero w N n = []
+stringOf (suc (suc (suc (suc (suc f))))) w N n = []
+
+-- whatever an outcome is that keeps the promise of recode: accepted, these digits and their marks, weight and top, and what stood past them
+pub record Answered (s : List ℕ) (ds : List ℤ) (digits₀ : List ℤ) (marks₀ : List ℕ) (o : Outcome) : Type 0 where
+  pub tally-is : o .tally ≡ record { refusal = 0; place = 0; weight = weight ds; top = top ds }
+  pub digits-are : o .digits ≡ ds ++ drop (bitCount s + 1) digits₀
+  pub marks-are : o .marks ≡ marksOf ds ++ drop markWords marks₀
+
+-- whatever an outcome is that keeps the promise of tape: accepted, these words and counts, and what stood past them
+pub record Written (ws : List ℕ) (doubled added : ℕ) (words₀ : List ℕ) (o : Taping.Outcome) : Type 0 where
+  pub taped-is : o .taped ≡ record { refusal = 0; place = 0; words = length ws; doublings = doubled; additions = added }
+  pub words-are : o .words ≡ ws ++ drop (length ws) words₀
+
+pub Holds : Case → Type 0
+Holds (string forms w s ds) =
+    All (λ f. (digits₀ : List ℤ) (marks₀ : List ℕ) → bitCount s + 1 ≤ length digits₀ → markWords ≤ length marks₀ → (o : Outcome) → Keeps f w s digits₀ marks₀ o → Answered s ds digits₀ marks₀ o) forms
+Holds (steps w ds ws m g x doubled added multiples) =
+    ((words₀ : List ℕ) → length ws ≤ length words₀ → (o : Taping.Outcome) → Taping.Keeps w ds words₀ o → Written ws doubled added words₀ o)
+    × ((multiples₀ : List ℕ) → entries w ≤ length multiples₀ → (r : Ran) (ms : List ℕ) → Promise w ws m g multiples₀ r ms
+    → (r ≡ record { outcome = Residue x; doublings = doubled; additions = added; cost = entries w - 1 }) × (ms ≡ multiples ++ drop (entries w) multiples₀))
+
+-- ---- a string in a form
+-- the form at the width, by a test
+fine : ℕ → ℕ → Bool
+fine f w = (leb 1 f && leb f 4) && ((leb 2 w && leb w 8) && (not (eqb f 1) || eqb w 2))
+
+allowed : (f w : ℕ) → T (fine f w) → Allowed f w
+unfolding fine
+allowed f w t =
+    let (a, b) = and-both (leb 1 f && leb f 4) ((leb 2 w && leb w 8) && (not (eqb f 1) || eqb w 2)) t in
+    let (c, d) = and-both (leb 1 f) (leb f 4) a in
+    let (e, g) = and-both (leb 2 w && leb w 8) (not (eqb f 1) || eqb w 2) b in
+    let (h, i) = and-both (leb 2 w) (leb w 8) e in
+    record {
+      least = leb→le 1 f c;
+      most = leb→le f 4 d;
+      lawful = (leb→le 2 w h, leb→le w 8 i);
+      narrow = λ z. ⊎-elim (λ x. absurd (T-not (eqb f 1) x (equal f 1 z))) (λ x. eqb→eq w 2 x) (or-either (not (eqb f 1)) (eqb w 2) g);
+    }
+
+-- what `stringOf` gives has the form
+string-formed : (f w N n : ℕ) → 2 ≤ w → N < 2 ^ n → 1 ≤ f → f ≤ 4 → Form f w N n (stringOf f w N n)
+unfolding stringOf
+string-formed zero w N n two small a b = absurd (omega arith)
+string-formed (suc zero) w N n two small a b = is-mof 1 w N n (mof N n) refl refl
+string-formed (suc (suc zero)) w N n two small a b = is-wnaf 2 w N n (wnafFrom w (n + 1) N) two small refl refl
+string-formed (suc (suc (suc zero))) w N n two small a b = is-wmof 3 w N n (wmof w N n) refl refl
+string-formed (suc (suc (suc (suc zero)))) w N n two small a b = is-closest 4 w N n (closestOf larger w N n) two small refl refl
+string-formed (suc (suc (suc (suc (suc f))))) w N n two small a b = absurd (omega arith)
+
+-- an outcome that keeps the promise is the one that the form's string gives
+answered : (f w : ℕ) (s : List ℕ) (ds : List ℤ) → Allowed f w → length s ≤ 66 → number s < 2 ^ bitCount s → Form f w (number s) (bitCount s) ds
+    → (digits₀ : List ℤ) (marks₀ : List ℕ) → bitCount s + 1 ≤ length digits₀ → markWords ≤ length marks₀ → (o : Outcome) → Keeps f w s digits₀ marks₀ o → Answered s ds digits₀ marks₀ o
+answered f w s ds a l small F digits₀ marks₀ p q o K =
+    let want : Outcome = record { tally = record { refusal = 0; place = 0; weight = weight ds; top = top ds }; digits = ds ++ drop (bitCount s + 1) digits₀; marks = marksOf ds ++ drop markWords marks₀ } in
+    let W : Keeps f w s digits₀ marks₀ want = record {
+      first = refuses-none f w s (length digits₀) (length marks₀) a l p q small;
+      accepted = λ e. record { string = ds; formed = F; digits-are = refl; marks-are = refl; weight-is = refl; top-is = refl };
+      refused = λ n. absurd (n refl);
+    } in
+    let e = recode-determined f w s digits₀ marks₀ o want K W in
+    record { tally-is = ap (λ (x : Outcome). x .tally) e; digits-are = ap (λ (x : Outcome). x .digits) e; marks-are = ap (λ (x : Outcome). x .marks) e }
+
+-- ---- a tape and its run
+-- what computes of such a case
+pub record Stepped (w : ℕ) (ds : List ℤ) (ws : List ℕ) (m g x doubled added : ℕ) (multiples : List ℕ) : Type 0 where
+  pub lawful : Lawful w
+  pub short : length ds ≤ 529
+  pub in-set : T (allIn (largest w) ds)
+  pub words-are : tapeOf ds ≡ ws
+  pub doublings-are : top ds - 1 ≡ doubled
+  pub additions-are : weight ds - 1 ≡ added
+  pub some : m ≢ 0
+  pub residue-is : Residues.Residue m (tapeValue ws *ℤ pos g) x
+  pub multiples-are : multiplesOf w m g ≡ multiples
+
+module _ (w : ℕ) (ds : List ℤ) (ws : List ℕ) (m g x doubled added : ℕ) (multiples : List ℕ) (S : Stepped w ds ws m g x doubled added multiples) where
+  -- no digit is bad, and no word
+  none-bad : (q : ℕ) → lowest (BadDigit w ds) q → ⊥
+  none-bad q (b, f) = T-not (inSet (largest w) (getD ds q (pos 0))) (b .bad) (all-at (largest w) ds (S .in-set) q (b .within))
+
+  all-good : (q : ℕ) → lowest (BadWord w ws) q → ⊥
+  all-good q (b, f) =
+      let c : BadWord w (tapeOf ds) q = subst (λ v. BadWord w v q) (sym (S .words-are)) b in
+      c .bad (tape-good w (S .lawful) ds (S .in-set) q (c .within))
+
+  width-in : (q : ℕ) → plain ((w < 2) ⊎ (8 < w)) q → ⊥
+  width-in q (h, e) = ⊎-elim (λ l. omega (arith, S .lawful)) (λ l. omega (arith, S .lawful)) h
+
+  -- the tape
+  taped : (words₀ : List ℕ) → length ws ≤ length words₀ → (o : Taping.Outcome) → Taping.Keeps w ds words₀ o → Written ws doubled added words₀ o
+  taped words₀ room o K =
+      let want : Taping.Outcome = record { taped = record { refusal = 0; place = 0; words = length ws; doublings = doubled; additions = added }; words = ws ++ drop (length ws) words₀ } in
+      let n = ap length (S .words-are) in
+      let W : Taping.Keeps w ds words₀ want = record {
+        first = inr (width-in, inr ((λ q k. omega (arith, S .short)), inr (none-bad, inr ((λ q k. omega (arith, n)), (refl, refl)))));
+        count-is = sym n;
+        doublings-are = sym (S .doublings-are);
+        additions-are = sym (S .additions-are);
+        words-are = ap (λ v. v ++ drop (length v) words₀) (sym (S .words-are));
+      } in
+      let e = tape-determined w ds words₀ o want K W in
+      record { taped-is = ap (λ (v : Taping.Outcome). v .taped) e; words-are = ap (λ (v : Taping.Outcome). v .words) e }
+
+  -- its run
+  ran : (multiples₀ : List ℕ) → entries w ≤ length multiples₀ → (r : Ran) (ms : List ℕ) → Promise w ws m g multiples₀ r ms
+      → (r ≡ record { outcome = Residue x; doublings = doubled; additions = added; cost = entries w - 1 }) × (ms ≡ multiples ++ drop (entries w) multiples₀)
+  ran multiples₀ room r ms P =
+      let few : length ws ≤ 1057 = omega (arith, ap length (S .words-are), tape-fits ds (S .short)) in
+      let W : Promise w ws m g multiples₀ (record { outcome = Residue x; doublings = doubled; additions = added; cost = entries w - 1 }) (multiples ++ drop (entries w) multiples₀) = record {
+        run = record {
+          first = inr (width-in, inr ((λ q k. S .some (k .0)), inr ((λ q k. omega arith), inr ((λ q k. omega arith), inr (all-good, (refl, refl))))));
+          residue-is = λ z. S .residue-is;
+          residue-none = λ n. absurd (n refl);
+          doublings-are = sym (S .doublings-are) ∙ sym (tape-doublings ds) ∙ ap doublings (S .words-are);
+          additions-are = sym (S .additions-are) ∙ sym (tape-additions w (S .lawful) ds (S .in-set)) ∙ ap additions (S .words-are);
+          cost-is = refl;
+          multiples-are = ap (λ v. v ++ drop (entries w) multiples₀) (sym (S .multiples-are));
+        };
+        numbered = tt;
+      } in
+      run-determined w ws m g multiples₀ r _ ms _ P W
+
+-- ---- the theorem
+-- a case computes
+pub Fits : Case → Type 0
+Fits (string forms w s ds) = (length s ≤ 66) × (number s < 2 ^ bitCount s) × All (λ f. T (fine f w) × (ds ≡ stringOf f w (number s) (bitCount s))) forms
+Fits (steps w ds ws m g x doubled added multiples) = Stepped w ds ws m g x doubled added multiples
+
+-- and so it holds
+holds : (c : Case) → Fits c → Holds c
+unfolding Fits Holds
+holds (steps w ds ws m g x doubled added multiples) S = (taped w ds ws m g x doubled added multiples S, ran w ds ws m g x doubled added multiples S)
+holds (string forms w s ds) (l, small, each) = go forms each
+  where
+    go : (fs : List ℕ) → All (λ f. T (fine f w) × (ds ≡ stringOf f w (number s) (bitCount s))) fs
+        → All (λ f. (digits₀ : List ℤ) (marks₀ : List ℕ) → bitCount s + 1 ≤ length digits₀ → markWords ≤ length marks₀ → (o : Outcome) → Keeps f w s digits₀ marks₀ o → Answered s ds digits₀ marks₀ o) fs
+    go [] h = tt
+    go (f ∷ fs) ((t, e), h) =
+        let a = allowed f w t in
+        (answered f w s ds a l small (rw e (string-formed f w (number s) (bitCount s) (a .lawful .0) small (a .least) (a .most))), go fs h)
+
+all-hold : (cs : List Case) → All Fits cs → All Holds cs
+all-hold [] h = tt
+all-hold (c ∷ cs) (a, h) = (holds c a, all-hold cs h)
+
+-- every case computes: the numbers, and each form's string by `refl`
+all-fit : All Fits cases
+unfolding Fits cases fine allIn inSet weight top nonzero tapeOf down loads adds valueFrom stepped multiplesOf stringOf number mof listed wnafFrom wnafDigit wnafNext wmof wmofUnder closestOf closestUnder windowWorth shrink trailingZeros
+all-fit = (
+  (lit≤ tt, lit< tt, ((tt, refl), tt)),
+  (
+    (lit≤ tt, lit< tt, ((tt, refl), tt)),
+    (
+      (lit≤ tt, lit< tt, ((tt, refl), tt)),
+      (
+        (lit≤ tt, lit< tt, ((tt, refl), tt)),
+        (
+          (lit≤ tt, lit< tt, ((tt, refl), ((tt, refl), ((tt, refl), tt)))),
+          (
+            (lit≤ tt, lit< tt, ((tt, refl), tt)),
+            (
+              (lit≤ tt, lit< tt, ((tt, refl), ((tt, refl), tt))),
+              (
+                (lit≤ tt, lit< tt, ((tt, refl), ((tt, refl), ((tt, refl), tt)))),
+                (
+                  (lit≤ tt, lit< tt, ((tt, refl), ((tt, refl), ((tt, refl), ((tt, refl), tt))))),
+                  (
+                    (lit≤ tt, lit< tt, ((tt, refl), ((tt, refl), ((tt, refl), tt)))),
+                    (
+                      (lit≤ tt, lit< tt, ((tt, refl), ((tt, refl), ((tt, refl), tt)))),
+                      (
+                        (lit≤ tt, lit< tt, ((tt, refl), ((tt, refl), ((tt, refl), tt)))),
+                        (
+                          (lit≤ tt, lit< tt, ((tt, refl), ((tt, refl), ((tt, refl), tt)))),
+                          (
+                            (lit≤ tt, lit< tt, ((tt, refl), ((tt, refl), ((tt, refl), tt)))),
+                            (
+                              (lit≤ tt, lit< tt, ((tt, refl), ((tt, refl), ((tt, refl), tt)))),
+                              (
+                                (lit≤ tt, lit< tt, ((tt, refl), tt)),
+                                (
+                                  record {
+                                    lawful = (lit≤ tt, lit≤ tt);
+                                    short = lit≤ tt;
+                                    in-set = tt;
+                                    words-are = refl;
+                                    doublings-are = refl;
+                                    additions-are = refl;
+                                    some = λ e. omega arith;
+                                    residue-is = record { quotient = pos 0; is = refl; least = lit< tt };
+                                    multiples-are = refl;
+                                  },
+                                  (
+                                    record {
+                                      lawful = (lit≤ tt, lit≤ tt);
+                                      short = lit≤ tt;
+                                      in-set = tt;
+                                      words-are = refl;
+                                      doublings-are = refl;
+                                      additions-are = refl;
+                                      some = λ e. omega arith;
+                                      residue-is = record { quotient = pos 37; is = refl; least = lit< tt };
+                                      multiples-are = refl;
+                                    },
+                                    tt,
+                                  ),
+                                ),
+                              ),
+                            ),
+                          ),
+                        ),
+                      ),
+                    ),
+                  ),
+                ),
+              ),
+            ),
+          ),
+        ),
+      ),
+    ),
+  ),
+)
+
+-- P1 to P12 hold of the promises
+pub known-strings : All Holds cases
+known-strings = all-hold cases all-fit

@@ -1,0 +1,7 @@
+-- Theorems about the calls' promises alone.
+pub mod Rules
+pub mod Recode
+pub mod Known
+pub mod Tape
+pub mod Run
+pub mod Search
