@@ -109,11 +109,10 @@ Holds (steps w ds ws m g x doubled added multiples) =
 
 -- ---- a string in a form
 -- the form at the width, by a test
-fine : ℕ → ℕ → Bool
+abbrev pub fine : ℕ → ℕ → Bool
 fine f w = (leb 1 f && leb f 4) && ((leb 2 w && leb w 8) && (not (eqb f 1) || eqb w 2))
 
-allowed : (f w : ℕ) → T (fine f w) → Allowed f w
-unfolding fine
+pub allowed : (f w : ℕ) → T (fine f w) → Allowed f w
 allowed f w t =
     let (a, b) = and-both (leb 1 f && leb f 4) ((leb 2 w && leb w 8) && (not (eqb f 1) || eqb w 2)) t in
     let (c, d) = and-both (leb 1 f) (leb f 4) a in
@@ -137,7 +136,7 @@ string-formed (suc (suc (suc (suc zero)))) w N n two small a b = is-closest 4 w 
 string-formed (suc (suc (suc (suc (suc f))))) w N n two small a b = absurd (omega arith)
 
 -- an outcome that keeps the promise is the one that the form's string gives
-answered : (f w : ℕ) (s : List ℕ) (ds : List ℤ) → Allowed f w → length s ≤ 66 → number s < 2 ^ bitCount s → Form f w (number s) (bitCount s) ds
+pub answered : (f w : ℕ) (s : List ℕ) (ds : List ℤ) → Allowed f w → length s ≤ 66 → number s < 2 ^ bitCount s → Form f w (number s) (bitCount s) ds
     → (digits₀ : List ℤ) (marks₀ : List ℕ) → bitCount s + 1 ≤ length digits₀ → markWords ≤ length marks₀ → (o : Outcome) → Keeps f w s digits₀ marks₀ o → Answered s ds digits₀ marks₀ o
 answered f w s ds a l small F digits₀ marks₀ p q o K =
     let want : Outcome = record { tally = record { refusal = 0; place = 0; weight = weight ds; top = top ds }; digits = ds ++ drop (bitCount s + 1) digits₀; marks = marksOf ds ++ drop markWords marks₀ } in
@@ -176,7 +175,7 @@ module _ (w : ℕ) (ds : List ℤ) (ws : List ℕ) (m g x doubled added : ℕ) (
   width-in q (h, e) = ⊎-elim (λ l. omega (arith, S .lawful)) (λ l. omega (arith, S .lawful)) h
 
   -- the tape
-  taped : (words₀ : List ℕ) → length ws ≤ length words₀ → (o : Taping.Outcome) → Taping.Keeps w ds words₀ o → Written ws doubled added words₀ o
+  pub taped : (words₀ : List ℕ) → length ws ≤ length words₀ → (o : Taping.Outcome) → Taping.Keeps w ds words₀ o → Written ws doubled added words₀ o
   taped words₀ room o K =
       let want : Taping.Outcome = record { taped = record { refusal = 0; place = 0; words = length ws; doublings = doubled; additions = added }; words = ws ++ drop (length ws) words₀ } in
       let n = ap length (S .words-are) in
@@ -191,7 +190,7 @@ module _ (w : ℕ) (ds : List ℤ) (ws : List ℕ) (m g x doubled added : ℕ) (
       record { taped-is = ap (λ (v : Taping.Outcome). v .taped) e; words-are = ap (λ (v : Taping.Outcome). v .words) e }
 
   -- its run
-  ran : (multiples₀ : List ℕ) → entries w ≤ length multiples₀ → (r : Ran) (ms : List ℕ) → Promise w ws m g multiples₀ r ms
+  pub ran : (multiples₀ : List ℕ) → entries w ≤ length multiples₀ → (r : Ran) (ms : List ℕ) → Promise w ws m g multiples₀ r ms
       → (r ≡ record { outcome = Residue x; doublings = doubled; additions = added; cost = entries w - 1 }) × (ms ≡ multiples ++ drop (entries w) multiples₀)
   ran multiples₀ room r ms P =
       let few : length ws ≤ 1057 = omega (arith, ap length (S .words-are), tape-fits ds (S .short)) in
@@ -234,7 +233,7 @@ all-hold (c ∷ cs) (a, h) = (holds c a, all-hold cs h)
 
 -- every case computes: the numbers, and each form's string by `refl`
 all-fit : All Fits cases
-unfolding Fits cases fine allIn inSet weight top nonzero tapeOf down loads adds valueFrom stepped multiplesOf stringOf number mof listed wnafFrom wnafDigit wnafNext wmof wmofUnder closestOf closestUnder windowWorth shrink trailingZeros
+unfolding Fits cases allIn inSet weight top nonzero tapeOf down loads adds valueFrom stepped multiplesOf stringOf number mof listed wnafFrom wnafDigit wnafNext wmof wmofUnder closestOf closestUnder windowWorth shrink trailingZeros
 all-fit = (
   (lit≤ tt, lit< tt, ((tt, refl), tt)),
   (

@@ -5,3 +5,6 @@ pub mod Known
 pub mod Tape
 pub mod Run
 pub mod Search
+pub mod RuledOut
+pub mod Demand2
+pub mod Demand3

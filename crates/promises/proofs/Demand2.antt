@@ -1,0 +1,48 @@
+-- Demand 2. Each form is digit for digit the one that its paper defines, from scalar to digits; the check says yes for exactly the strings that are legal and worth the
+-- scalar; and running the tape of such a string gives the scalar times the base, as a residue of the given modulus. From the calls' promises alone. Assumes nothing.
+use mathlib.Core.Path.{_≡_, sym, ap, subst, _∙_}
+use mathlib.Core.Logic.{_≢_}
+use mathlib.Core.List.{List}
+use Prim.Native.Nat.{ℕ, _+_, _-_, _^_, _<_, _≤_}
+use native.Mathlib.Omega.{arith}
+use lib.IntN.{ℤ, pos, _*ℤ_}
+use lib.ListN.{length, take}
+use lib.Seq.{take-at}
+use Rattle.meaning.specs.Scalars.{number, bitCount}
+use Rattle.meaning.specs.Digits.{worth, weight, top}
+use Rattle.meaning.specs.Forms.{Form}
+use Rattle.meaning.specs.Refusals.{First}
+use Rattle.meaning.specs.Recoding.{recodeRules}
+use Rattle.meaning.specs.Running.{Residue}
+use Rattle.forms.proofs.Forms.{form-length, form-worth}
+use Rattle.scalar.proofs.Bytes.{Bytes, number-lt}
+use Rattle.run.specs.declared.Ran.{Ran}
+use Rattle.run.specs.Outcomes.{refusalOf, residueOf, Promise}
+use Rattle.run.proofs.Together.{together}
+use Rattle.promises.proofs.Recode as Recoding
+use Rattle.promises.proofs.Recode.{accepted-width}
+use Rattle.promises.proofs.Tape as Taping
+
+module _ {form w : ℕ} {s : List ℕ} {digits₀ : List ℤ} {marks₀ : List ℕ} (o : Recoding.Outcome) (K : Recoding.Keeps form w s digits₀ marks₀ o)
+    (z : o .tally .refusal ≡ 0) (bytes : Bytes s) where
+  small : number s < 2 ^ bitCount s
+  small = number-lt s bytes
+
+  two : 2 ≤ w
+  two = accepted-width form w s (length digits₀) (length marks₀) (o .tally .place) (subst (λ r. First (recodeRules form w s (length digits₀) (length marks₀)) r (o .tally .place)) z (K .first))
+
+  -- the n + 1 digits of an accepted recode are the form's, digit for digit
+  pub recoded-form : Form form w (number s) (bitCount s) (take (bitCount s + 1) (o .digits))
+  recoded-form =
+      let A = K .accepted z in
+      let e = ap (take (bitCount s + 1)) (A .digits-are) ∙ take-at (A .string) _ (bitCount s + 1) (form-length w (number s) (bitCount s) two small form (A .string) (A .formed)) in
+      subst (λ ds. Form form w (number s) (bitCount s) ds) (sym e) (A .formed)
+
+  -- and worth the scalar
+  pub recoded-worth : worth (take (bitCount s + 1) (o .digits)) ≡ pos (number s)
+  recoded-worth = form-worth w (number s) (bitCount s) two small form (take (bitCount s + 1) (o .digits)) recoded-form
+
+-- running the tape of a string that is worth the scalar gives the scalar times the base
+pub run-gives-scalar : {w m g : ℕ} {ds : List ℤ} {words₀ multiples₀ multiples : List ℕ} (N : ℕ) → worth ds ≡ pos N → (t : Taping.Outcome) → Taping.Keeps w ds words₀ t → t .taped .refusal ≡ 0
+    → (r : Ran) → Promise w (take (t .taped .words) (t .words)) m g multiples₀ r multiples → refusalOf (r .outcome) ≡ 0 → Residue m (pos N *ℤ pos g) (residueOf (r .outcome))
+run-gives-scalar {m = m} {g = g} N e t K z r P y = subst (λ v. Residue m (v *ℤ pos g) (residueOf (r .outcome))) e (together K z P y .residue-is)

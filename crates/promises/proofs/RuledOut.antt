@@ -1,0 +1,242 @@
+-- Calls that cannot keep their promise: refusing everything, one fixed string for all scalars, not writing at all, writing on a refusal, two refusals in the other
+-- order, invented step counts. Each is a theorem: a call with that behaviour that kept its promise at every input would give a contradiction. Assumes nothing.
+use mathlib.Core.Path.{_≡_, refl, sym, ap, _∙_}
+use mathlib.Core.Logic.{_≢_, _⊎_, inl, inr}
+use mathlib.Core.List.{List, [], _∷_}
+use Prim.Native.Nat.{ℕ, _+_, _<_}
+use native.Mathlib.Omega.{arith}
+use lib.Dec.{lit<, lit≤}
+use lib.IntN.{ℤ, pos, natAbs}
+use lib.ListN.{length, getD, take, replicate}
+use Rattle.meaning.specs.Scalars.{number, bitCount}
+use Rattle.meaning.specs.Digits.{weight, top, nonzero, inSet, allIn, listed}
+use Rattle.meaning.specs.Recoding.{recodeRules}
+use Rattle.meaning.specs.Taping.{loads, adds, down, tapeOf, stepped, valueFrom}
+use Rattle.meaning.specs.Running.{multiplesOf, runRules}
+use Rattle.meaning.specs.Searching.{searchRules, Search}
+use Rattle.forms.specs.Wnaf.{wnafDigit, wnafNext, wnafFrom}
+use Rattle.forms.proofs.Refusals.{first-only, kept-lent}
+use Rattle.recoder.specs.declared.Tally.{Tally}
+use Rattle.recoder.proofs.Formed.{is-wnaf}
+use Rattle.recoder.proofs.Judging.{refuses-2}
+use Rattle.tape.specs.declared.Taped.{Taped}
+use Rattle.run.specs.declared.Ran.{Ran}
+use Rattle.run.specs.declared.Outcome.the-variants.{Residue}
+use Rattle.run.specs.Outcomes.{refusalOf, Promise}
+use Rattle.search.specs.declared.Searched.{Searched}
+use Rattle.promises.proofs.Rules.{recode-tells, run-tells, search-tells}
+use Rattle.promises.proofs.Recode as Recoding
+use Rattle.promises.proofs.Tape as Taping
+use Rattle.promises.proofs.Known.{Answered, allowed, answered, Written, Stepped, taped, ran}
+
+-- ---- recode
+-- an outcome for every input, which keeps the promise
+pub record Recoder : Type 0 where
+  pub call : (form w : ℕ) (s : List ℕ) (digits₀ : List ℤ) (marks₀ : List ℕ) → Recoding.Outcome
+  pub keeps : (form w : ℕ) (s : List ℕ) (digits₀ : List ℤ) (marks₀ : List ℕ) → Recoding.Keeps form w s digits₀ marks₀ (call form w s digits₀ marks₀)
+
+-- buffers that are lent: nine zeros each
+digits-lent : List ℤ
+digits-lent = replicate 9 (pos 0)
+
+marks-lent : List ℕ
+marks-lent = replicate 9 0
+
+-- what it does with a byte as wNAF at width 2
+byte-answer : (c : Recoder) (b : ℕ) → number (b ∷ []) < 256 → Answered (b ∷ []) (wnafFrom 2 9 (number (b ∷ []))) digits-lent marks-lent (c .call 2 2 (b ∷ []) digits-lent marks-lent)
+unfolding digits-lent marks-lent
+byte-answer c b h =
+    answered 2 2 (b ∷ []) (wnafFrom 2 9 (number (b ∷ []))) (allowed 2 2 tt) (lit≤ tt) h (is-wnaf 2 2 (number (b ∷ [])) 8 _ (lit≤ tt) h refl refl) digits-lent marks-lent (lit≤ tt) (lit≤ tt)
+    (c .call 2 2 (b ∷ []) digits-lent marks-lent) (c .keeps 2 2 (b ∷ []) digits-lent marks-lent)
+
+-- the lowest digit of the buffer afterwards
+lowest-digit : List ℤ → ℕ
+lowest-digit ds = natAbs (getD ds 0 (pos 0))
+
+-- 1 has the digit 1 at place 0, and 2 has 0 there
+one-digit : (c : Recoder) → lowest-digit (c .call 2 2 (1 ∷ []) digits-lent marks-lent .digits) ≡ 1
+unfolding lowest-digit digits-lent marks-lent number wnafFrom wnafDigit wnafNext
+one-digit c = ap lowest-digit (byte-answer c 1 (lit< tt) .digits-are)
+
+two-digit : (c : Recoder) → lowest-digit (c .call 2 2 (2 ∷ []) digits-lent marks-lent .digits) ≡ 0
+unfolding lowest-digit digits-lent marks-lent number wnafFrom wnafDigit wnafNext
+two-digit c = ap lowest-digit (byte-answer c 2 (lit< tt) .digits-are)
+
+-- it is accepted
+one-accepted : (c : Recoder) → c .call 2 2 (1 ∷ []) digits-lent marks-lent .tally .refusal ≡ 0
+unfolding digits-lent marks-lent number
+one-accepted c = ap (λ (t : Tally). t .refusal) (byte-answer c 1 (lit< tt) .tally-is)
+
+two-accepted : (c : Recoder) → c .call 2 2 (2 ∷ []) digits-lent marks-lent .tally .refusal ≡ 0
+unfolding digits-lent marks-lent number
+two-accepted c = ap (λ (t : Tally). t .refusal) (byte-answer c 2 (lit< tt) .tally-is)
+
+-- refusing everything
+pub recode-not-refusing : (c : Recoder) → ((form w : ℕ) (s : List ℕ) (digits₀ : List ℤ) (marks₀ : List ℕ) → c .call form w s digits₀ marks₀ .tally .refusal ≢ 0) → ⊥
+recode-not-refusing c r = r 2 2 (1 ∷ []) digits-lent marks-lent (one-accepted c)
+
+-- one fixed string for all scalars
+pub recode-not-fixed : (c : Recoder) (fixed : List ℤ)
+    → ((form w : ℕ) (s : List ℕ) (digits₀ : List ℤ) (marks₀ : List ℕ) → c .call form w s digits₀ marks₀ .tally .refusal ≡ 0 → take (bitCount s + 1) (c .call form w s digits₀ marks₀ .digits) ≡ fixed) → ⊥
+unfolding lowest-digit
+recode-not-fixed c fixed r =
+    let one = r 2 2 (1 ∷ []) digits-lent marks-lent (one-accepted c) in
+    let two = r 2 2 (2 ∷ []) digits-lent marks-lent (two-accepted c) in
+    let z : _≡_ {A = ℕ} 1 0 = sym (one-digit c) ∙ first-of (c .call 2 2 (1 ∷ []) digits-lent marks-lent .digits) ∙ ap lowest-digit (one ∙ sym two)
+    ∙ sym (first-of (c .call 2 2 (2 ∷ []) digits-lent marks-lent .digits)) ∙ two-digit c in
+    omega arith
+  where
+    first-of : (ds : List ℤ) → lowest-digit ds ≡ lowest-digit (take 9 ds)
+    first-of [] = refl
+    first-of (d ∷ ds) = refl
+
+-- not writing at all
+pub recode-not-idle : (c : Recoder) → ((form w : ℕ) (s : List ℕ) (digits₀ : List ℤ) (marks₀ : List ℕ) → c .call form w s digits₀ marks₀ .digits ≡ digits₀) → ⊥
+unfolding lowest-digit digits-lent
+recode-not-idle c r = let z : _≡_ {A = ℕ} 0 1 = sym (ap lowest-digit (r 2 2 (1 ∷ []) digits-lent marks-lent)) ∙ one-digit c in omega arith
+
+-- writing on a refusal
+pub recode-not-writing : (c : Recoder) (form w : ℕ) (s : List ℕ) (digits₀ : List ℤ) (marks₀ : List ℕ)
+    → c .call form w s digits₀ marks₀ .tally .refusal ≢ 0 → (c .call form w s digits₀ marks₀ .digits ≢ digits₀) ⊎ (c .call form w s digits₀ marks₀ .marks ≢ marks₀) → ⊥
+recode-not-writing c form w s digits₀ marks₀ n (inl h) = h (c .keeps form w s digits₀ marks₀ .refused n .digits-are)
+recode-not-writing c form w s digits₀ marks₀ n (inr h) = h (c .keeps form w s digits₀ marks₀ .refused n .marks-are)
+
+-- a long scalar refused before a bad width
+pub recode-not-swapped : (c : Recoder) → ((form w : ℕ) (s : List ℕ) (digits₀ : List ℤ) (marks₀ : List ℕ) → 66 < length s → c .call form w s digits₀ marks₀ .tally .refusal ≡ 3) → ⊥
+recode-not-swapped c r =
+    let s : List ℕ = replicate 67 0 in
+    let K = c .keeps 2 9 s [] [] in
+    let e = first-only (recodeRules 2 9 s 0 0) (recode-tells 2 9 s 0 0) _ _ _ _ (K .first) (refuses-2 2 9 s 0 0 (lit≤ tt) (lit≤ tt) (inl (inr (lit< tt)))) .0 in
+    let z : _≡_ {A = ℕ} 3 2 = sym (r 2 9 s [] [] (lit< tt)) ∙ e in
+    omega arith
+
+-- ---- tape and run
+-- the strings 1 and 3 = 1 + 2 · 1, their tapes and runs
+one-stepped : Stepped 2 (pos 1 ∷ []) (0x1000 ∷ []) 5 1 1 0 0 (1 ∷ [])
+unfolding allIn inSet weight top nonzero tapeOf down loads adds valueFrom stepped multiplesOf listed
+one-stepped =
+    record {
+      lawful = (lit≤ tt, lit≤ tt);
+      short = lit≤ tt;
+      in-set = tt;
+      words-are = refl;
+      doublings-are = refl;
+      additions-are = refl;
+      some = λ e. omega arith;
+      residue-is = record { quotient = pos 0; is = refl; least = lit< tt };
+      multiples-are = refl;
+    }
+
+three-stepped : Stepped 2 (pos 1 ∷ pos 1 ∷ []) (0x1000 ∷ 0 ∷ 0x3000 ∷ []) 5 1 3 1 1 (1 ∷ [])
+unfolding allIn inSet weight top nonzero tapeOf down loads adds valueFrom stepped multiplesOf listed
+three-stepped =
+    record {
+      lawful = (lit≤ tt, lit≤ tt);
+      short = lit≤ tt;
+      in-set = tt;
+      words-are = refl;
+      doublings-are = refl;
+      additions-are = refl;
+      some = λ e. omega arith;
+      residue-is = record { quotient = pos 0; is = refl; least = lit< tt };
+      multiples-are = refl;
+    }
+
+pub record Taper : Type 0 where
+  pub call : (w : ℕ) (ds : List ℤ) (words₀ : List ℕ) → Taping.Outcome
+  pub keeps : (w : ℕ) (ds : List ℤ) (words₀ : List ℕ) → Taping.Keeps w ds words₀ (call w ds words₀)
+
+-- a lent buffer of three words, none of them a step
+words-lent : List ℕ
+words-lent = 9 ∷ 9 ∷ 9 ∷ []
+
+module _ (t : Taper) where
+  one-taped : Written (0x1000 ∷ []) 0 0 words-lent (t .call 2 (pos 1 ∷ []) words-lent)
+  unfolding words-lent
+  one-taped = taped 2 (pos 1 ∷ []) (0x1000 ∷ []) 5 1 1 0 0 (1 ∷ []) one-stepped words-lent (lit≤ tt) _ (t .keeps 2 (pos 1 ∷ []) words-lent)
+
+  three-taped : Written (0x1000 ∷ 0 ∷ 0x3000 ∷ []) 1 1 words-lent (t .call 2 (pos 1 ∷ pos 1 ∷ []) words-lent)
+  unfolding words-lent
+  three-taped = taped 2 (pos 1 ∷ pos 1 ∷ []) (0x1000 ∷ 0 ∷ 0x3000 ∷ []) 5 1 3 1 1 (1 ∷ []) three-stepped words-lent (lit≤ tt) _ (t .keeps 2 (pos 1 ∷ pos 1 ∷ []) words-lent)
+
+  -- refusing everything
+  pub tape-not-refusing : ((w : ℕ) (ds : List ℤ) (words₀ : List ℕ) → t .call w ds words₀ .taped .refusal ≢ 0) → ⊥
+  tape-not-refusing r = r 2 (pos 1 ∷ []) words-lent (ap (λ (x : Taped). x .refusal) (one-taped .taped-is))
+
+  -- not writing at all
+  pub tape-not-idle : ((w : ℕ) (ds : List ℤ) (words₀ : List ℕ) → t .call w ds words₀ .words ≡ words₀) → ⊥
+  unfolding words-lent
+  tape-not-idle r =
+      let z : _≡_ {A = ℕ} 9 0x1000 = ap (λ ws. getD ws 0 0) (sym (r 2 (pos 1 ∷ []) words-lent) ∙ one-taped .words-are) in
+      omega arith
+
+  -- writing on a refusal
+  pub tape-not-writing : (w : ℕ) (ds : List ℤ) (words₀ : List ℕ) → t .call w ds words₀ .taped .refusal ≢ 0 → t .call w ds words₀ .words ≢ words₀ → ⊥
+  tape-not-writing w ds words₀ n h = h (t .keeps w ds words₀ .words-are ∙ kept-lent (t .call w ds words₀ .taped .refusal) _ words₀ n)
+
+  -- the load counted as an addition
+  pub tape-not-counting-loads : ((w : ℕ) (ds : List ℤ) (words₀ : List ℕ) → t .call w ds words₀ .taped .refusal ≡ 0 → t .call w ds words₀ .taped .additions ≡ weight ds) → ⊥
+  unfolding weight nonzero
+  tape-not-counting-loads r =
+      let T = one-taped .taped-is in
+      let z : _≡_ {A = ℕ} 0 1 = sym (ap (λ (x : Taped). x .additions) T) ∙ r 2 (pos 1 ∷ []) words-lent (ap (λ (x : Taped). x .refusal) T) in
+      omega arith
+
+  -- step counts that do not depend on the string
+  pub tape-not-inventing : (doubled added : ℕ)
+      → ((w : ℕ) (ds : List ℤ) (words₀ : List ℕ) → t .call w ds words₀ .taped .refusal ≡ 0 → (t .call w ds words₀ .taped .doublings ≡ doubled) × (t .call w ds words₀ .taped .additions ≡ added)) → ⊥
+  tape-not-inventing doubled added r =
+      let A = one-taped .taped-is in
+      let B = three-taped .taped-is in
+      let a = r 2 (pos 1 ∷ []) words-lent (ap (λ (x : Taped). x .refusal) A) in
+      let b = r 2 (pos 1 ∷ pos 1 ∷ []) words-lent (ap (λ (x : Taped). x .refusal) B) in
+      omega (arith, a .1, b .1, ap (λ (x : Taped). x .additions) A, ap (λ (x : Taped). x .additions) B)
+
+pub record Runner : Type 0 where
+  pub call : (w : ℕ) (ws : List ℕ) (m g : ℕ) (multiples₀ : List ℕ) → Ran
+  pub multiples : (w : ℕ) (ws : List ℕ) (m g : ℕ) (multiples₀ : List ℕ) → List ℕ
+  pub keeps : (w : ℕ) (ws : List ℕ) (m g : ℕ) (multiples₀ : List ℕ) → Promise w ws m g multiples₀ (call w ws m g multiples₀) (multiples w ws m g multiples₀)
+
+module _ (c : Runner) where
+  one-ran : (c .call 2 (0x1000 ∷ []) 5 1 (9 ∷ []) ≡ record { outcome = Residue 1; doublings = 0; additions = 0; cost = 0 }) × (c .multiples 2 (0x1000 ∷ []) 5 1 (9 ∷ []) ≡ 1 ∷ [])
+  one-ran = ran 2 (pos 1 ∷ []) (0x1000 ∷ []) 5 1 1 0 0 (1 ∷ []) one-stepped (9 ∷ []) (lit≤ tt) _ _ (c .keeps 2 (0x1000 ∷ []) 5 1 (9 ∷ []))
+
+  three-ran : c .call 2 (0x1000 ∷ 0 ∷ 0x3000 ∷ []) 5 1 (9 ∷ []) ≡ record { outcome = Residue 3; doublings = 1; additions = 1; cost = 0 }
+  three-ran = ran 2 (pos 1 ∷ pos 1 ∷ []) (0x1000 ∷ 0 ∷ 0x3000 ∷ []) 5 1 3 1 1 (1 ∷ []) three-stepped (9 ∷ []) (lit≤ tt) _ _ (c .keeps 2 (0x1000 ∷ 0 ∷ 0x3000 ∷ []) 5 1 (9 ∷ [])) .0
+
+  -- refusing everything
+  pub run-not-refusing : ((w : ℕ) (ws : List ℕ) (m g : ℕ) (multiples₀ : List ℕ) → refusalOf (c .call w ws m g multiples₀ .outcome) ≢ 0) → ⊥
+  run-not-refusing r = r 2 (0x1000 ∷ []) 5 1 (9 ∷ []) (ap (λ (x : Ran). refusalOf (x .outcome)) (one-ran .0))
+
+  -- storing no multiples
+  pub run-not-idle : ((w : ℕ) (ws : List ℕ) (m g : ℕ) (multiples₀ : List ℕ) → c .multiples w ws m g multiples₀ ≡ multiples₀) → ⊥
+  run-not-idle r = let z : _≡_ {A = ℕ} 9 1 = ap (λ ws. getD ws 0 0) (sym (r 2 (0x1000 ∷ []) 5 1 (9 ∷ [])) ∙ one-ran .1) in omega arith
+
+  -- storing multiples on a refusal
+  pub run-not-storing : (w : ℕ) (ws : List ℕ) (m g : ℕ) (multiples₀ : List ℕ) → refusalOf (c .call w ws m g multiples₀ .outcome) ≢ 0 → c .multiples w ws m g multiples₀ ≢ multiples₀ → ⊥
+  run-not-storing w ws m g multiples₀ n h = h (c .keeps w ws m g multiples₀ .run .multiples-are ∙ kept-lent (refusalOf (c .call w ws m g multiples₀ .outcome)) _ multiples₀ n)
+
+  -- a residue or step counts that do not depend on the tape
+  pub run-not-inventing : (doubled added : ℕ)
+      → ((w : ℕ) (ws : List ℕ) (m g : ℕ) (multiples₀ : List ℕ) → refusalOf (c .call w ws m g multiples₀ .outcome) ≡ 0
+      → (c .call w ws m g multiples₀ .doublings ≡ doubled) × (c .call w ws m g multiples₀ .additions ≡ added)) → ⊥
+  run-not-inventing doubled added r =
+      let A = one-ran .0 in
+      let B = three-ran in
+      let a = r 2 (0x1000 ∷ []) 5 1 (9 ∷ []) (ap (λ (x : Ran). refusalOf (x .outcome)) A) in
+      let b = r 2 (0x1000 ∷ 0 ∷ 0x3000 ∷ []) 5 1 (9 ∷ []) (ap (λ (x : Ran). refusalOf (x .outcome)) B) in
+      omega (arith, a .0, b .0, ap (λ (x : Ran). x .doublings) A, ap (λ (x : Ran). x .doublings) B)
+
+  -- the modulus looked at before the width
+  pub run-not-swapped : ((w : ℕ) (ws : List ℕ) (g : ℕ) (multiples₀ : List ℕ) → refusalOf (c .call w ws 0 g multiples₀ .outcome) ≡ 12) → ⊥
+  run-not-swapped r =
+      let K = c .keeps 9 [] 0 0 [] .run in
+      let e = first-only (runRules 9 [] 0 0) (run-tells 9 [] 0 0) _ _ 2 0 (K .first) (inl (refl, (inr (lit< tt), refl))) .0 in
+      let z : _≡_ {A = ℕ} 12 2 = sym (r 9 [] 0 []) ∙ e in
+      omega arith
+
+-- ---- the search
+-- refusing everything
+pub search-not-refusing : (call : (number w : ℕ) → Searched) → ((number w : ℕ) → Search number w (call number w .refusal) (call number w .weight)) → ((number w : ℕ) → call number w .refusal ≢ 0) → ⊥
+search-not-refusing call keeps r =
+    r 0 2 (first-only (searchRules 0 2) (search-tells 0 2) _ _ 0 0 (keeps 0 2 .first) (inr ((λ q h. h .0 .0 refl), inr ((λ q h. omega arith), (refl, refl)))) .0)
