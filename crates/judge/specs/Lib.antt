@@ -1,0 +1,4 @@
+-- What the contracts of this crate cite beside `meaning`.
+pub mod Tests
+pub mod Levels
+pub mod Spaces

@@ -1,0 +1,21 @@
+-- What a look at the spacing of the nonzero digits finds.
+-- Assumes nothing.
+use mathlib.Core.Path.{_≡_}
+use mathlib.Core.Logic.{_≢_}
+use mathlib.Core.List.{List}
+use Prim.Native.Nat.{ℕ, _+_}
+use lib.IntN.{ℤ, pos}
+use Rattle.meaning.specs.Refusals.{lowest}
+use Rattle.meaning.specs.Checking.{Crowded}
+use Rattle.judge.specs.declared.Spaced.{Spaced}
+use Rattle.judge.specs.declared.Spaced.the-variants.{Near, Apart}
+
+-- a nonzero digit at place i moves the place from which on the next may stand, another leaves it
+pub record Freed (w free i : ℕ) (d : ℤ) (r : ℕ) : Type 0 where
+  pub stays : d ≡ pos 0 → r ≡ free
+  pub moves : d ≢ pos 0 → r ≡ i + w
+
+-- the lower place of the lowest crowded pair, or that there is none
+abbrev pub Spacing : ℕ → List ℤ → Spaced → Type 0
+Spacing w ds (Near p) = lowest (Crowded w ds) p
+Spacing w ds Apart = (p : ℕ) → Crowded w ds p → ⊥

@@ -1,0 +1,198 @@
+// Judges digit strings made elsewhere: the call `check`, and `check_nonadjacent` that also asks how far apart the nonzero digits stand.
+ghost use mathlib.Core.Path.{_≡_};
+ghost use mathlib.Core.Logic.{_≢_};
+ghost use Prim.Native.Nat.{_+_, _*_, _^_, _≤_, _<_, max};
+ghost use lib.IntN.{pos};
+ghost use lib.ListN.{length, getD};
+ghost use Rattle.meaning.specs.Scalars.{number, mostBytes};
+ghost use Rattle.meaning.specs.Digits.{mostPlaces, worth};
+ghost use Rattle.meaning.specs.Checking.{checkRules, nonadjacentRules, Check};
+ghost use Rattle.judge.specs.Tests.{Says};
+ghost use Rattle.judge.specs.Levels.{Raised, Stretch, Turned};
+ghost use Rattle.judge.specs.Spaces.{Freed, Spacing};
+use scalar::MOST_BYTES;
+use tape::Found;
+use width::Known;
+use width::Width;
+
+// What a check returns: 0, or the number of a refusal; the place where the refusal names one; and on acceptance the weight and the top.
+pub struct Verdict {
+    pub refusal: u8,
+    pub place: u16,
+    pub weight: u16,
+    pub top: u16,
+}
+
+// ---- worth
+// Digits and carries are kept this much above what they are: none is then below nought.
+const LEVEL: u32 = 256;
+
+fn raised(digit: i8) -> u32
+    ensures { λ r. ⌜ Raised digit r ⌝ }
+{
+    ((digit as i32) + (LEVEL as i32)) as u32
+}
+
+// The digit at place i, which is 0 above the string.
+fn digit_at(digits: &[i8], i: usize) -> u32
+    ensures { λ r. ⌜ Raised (getD (now (digits .entry)) i (pos 0)) r ⌝ }
+{
+    if i < digits.len() {
+        raised(digits[i])
+    } else {
+        LEVEL
+    }
+}
+
+// The digits of the eight places from place i up, as one number.
+fn eight(digits: &[i8], i: usize) -> u32
+    requires { ⌜ i + 8 < 2 ^ 64 ⌝ }
+    ensures { λ r. ⌜ Stretch (now (digits .entry)) i 8 r ⌝ }
+{
+    let mut sum = 0;
+    let mut k = 8;
+    while 0 < k {
+        k -= 1;
+        sum = 2 * sum + digit_at(digits, i + k);
+    }
+    sum
+}
+
+// What the comparison of eight places with a byte leaves: a carry to the next eight, and here 0 only if the two agree.
+struct Turn {
+    carry: u32,
+    left: u32,
+}
+
+fn step(scalar: &[u8], digits: &[i8], q: usize, carry: u32) -> Turn
+    requires { ⌜ (8 * q + 8 < 2 ^ 64) × (carry ≤ 512) ⌝ }
+    ensures { λ r. ⌜ Turned (number (now (scalar .entry))) (now (digits .entry)) q carry r ⌝ }
+{
+    let sum = eight(digits, 8 * q) - scalar::byte(scalar, q) + carry;
+    Turn {
+        carry: sum / 256,
+        left: sum % 256,
+    }
+}
+
+fn larger(a: usize, b: usize) -> usize
+    ensures { λ r. ⌜ r ≡ max a b ⌝ }
+{
+    if a < b { b } else { a }
+}
+
+// Whether the string is worth the scalar. They are compared from the lowest places up, to the last place of either: nothing may be left
+// at any eight places, and nothing carried past the top. So no number on the way outgrows a word, and none is cut down to one.
+fn worth_is(scalar: &[u8], digits: &[i8]) -> bool
+    requires { ⌜ (length (now scalar) ≤ mostBytes) × (length (now digits) ≤ mostPlaces) ⌝ }
+    ensures { λ r. ⌜ Says r (worth (now (digits .entry)) ≡ pos (number (now (scalar .entry)))) ⌝ }
+{
+    let end = larger((digits.len() + 7) / 8, scalar.len());
+    let mut carry = LEVEL;
+    let mut q = 0;
+    while q < end {
+        let turn = step(scalar, digits, q, carry);
+        if turn.left != 0 {
+            return false;
+        }
+        carry = turn.carry;
+        q += 1;
+    }
+    carry == LEVEL
+}
+
+// ---- spacing
+// What a look at the spacing finds: the lower place of the lowest pair that stands too near, or none.
+enum Spaced {
+    Near(usize),
+    Apart,
+}
+
+// Whether the digit at place i stands too near, where the next nonzero one may stand from place `free` on.
+fn crowds(digit: i8, i: usize, free: usize) -> bool
+    ensures { λ r. ⌜ Says r ((digit ≢ pos 0) × (i < free)) ⌝ }
+{
+    if digit == 0 { false } else { i < free }
+}
+
+// From where on the next nonzero digit may stand, after the digit at place i.
+fn freed(w: usize, free: usize, i: usize, digit: i8) -> usize
+    requires { ⌜ i + w < 2 ^ 64 ⌝ }
+    ensures { λ r. ⌜ Freed w free i digit r ⌝ }
+{
+    if digit == 0 { free } else { i + w }
+}
+
+// Each nonzero digit is looked at with the last one under it alone: those further down are no nearer.
+fn spacing(w: usize, digits: &[i8]) -> Spaced
+    requires { ⌜ w < 256 ⌝ }
+    ensures { λ r. ⌜ Spacing w (now (digits .entry)) r ⌝ }
+{
+    let mut free = 0;
+    let mut i = 0;
+    while i < digits.len() {
+        let digit = digits[i];
+        if crowds(digit, i, free) {
+            return Spaced::Near(free - w);
+        }
+        free = freed(w, free, i, digit);
+        i += 1;
+    }
+    Spaced::Apart
+}
+
+// ---- the calls
+// A refusal: 0 in every field but its number and its place.
+fn refused(number: u8, place: u16) -> Verdict
+    ensures { λ r. ⌜ r ≡ record { refusal = number; place = place; weight = 0; top = 0 } ⌝ }
+{
+    Verdict {
+        refusal: number,
+        place,
+        weight: 0,
+        top: 0,
+    }
+}
+
+// The plain check.
+pub fn check(width: u8, scalar: &[u8], digits: &[i8]) -> Verdict
+    ensures { λ r. ⌜ Check (checkRules width (now (scalar .entry)) (now (digits .entry))) (now (digits .entry)) (r .refusal) (r .place) (r .weight) (r .top) ⌝ }
+{
+    let Known::As(known) = Width::known(width) else {
+        return refused(2, 0);
+    };
+    if MOST_BYTES < scalar.len() {
+        return refused(3, 0);
+    }
+    if Width::MOST_PLACES < digits.len() {
+        return refused(7, 0);
+    }
+    match tape::scan(known, digits) {
+        Found::Bad(place) => refused(8, place as u16),
+        Found::Sound(count) => {
+            if !worth_is(scalar, digits) {
+                return refused(9, 0);
+            }
+            Verdict {
+                refusal: 0,
+                place: 0,
+                weight: count.weight as u16,
+                top: count.top as u16,
+            }
+        }
+    }
+}
+
+// The check of a string whose nonzero digits have to stand apart. Its own rule is the last, so what the plain check refuses stays refused.
+pub fn check_nonadjacent(width: u8, scalar: &[u8], digits: &[i8]) -> Verdict
+    ensures { λ r. ⌜ Check (nonadjacentRules width (now (scalar .entry)) (now (digits .entry))) (now (digits .entry)) (r .refusal) (r .place) (r .weight) (r .top) ⌝ }
+{
+    let plain = check(width, scalar, digits);
+    if plain.refusal != 0 {
+        return plain;
+    }
+    match spacing(width as usize, digits) {
+        Spaced::Near(place) => refused(10, place as u16),
+        Spaced::Apart => plain,
+    }
+}
