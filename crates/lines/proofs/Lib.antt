@@ -1,0 +1,6 @@
+pub mod Characters
+pub mod Frames
+pub mod Runs
+pub mod Writing
+pub mod Answering
+pub mod Streams

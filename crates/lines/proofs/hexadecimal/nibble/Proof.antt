@@ -1,0 +1,48 @@
+-- `lines::hexadecimal::nibble` meets its contract: each way through the ranges is a law of characters. Assumes nothing.
+use mathlib.Core.Path.{sym}
+use native.Mathlib.Omega.{arith}
+use borrow.Author.Needs.{needs}
+use Rattle.lines.proofs.Characters.{decimal, upper, lower, other}
+use Rattle.lines.proofs.hexadecimal.nibble.Statement.{statement}
+use Rattle.lines.proofs.hexadecimal.nibble.Tie as tie
+
+add-result : tie.Need-add-result
+add-result c = search needs
+
+add-result-2 : tie.Need-add-result-2
+add-result-2 c = search needs
+
+returns : tie.Need-returns
+returns c = sym (decimal _ (omega arith) (omega arith))
+
+returns-2 : tie.Need-returns-2
+returns-2 c = sym (upper _ (omega arith) (omega arith))
+
+returns-3 : tie.Need-returns-3
+returns-3 c = sym (lower _ (omega arith) (omega arith))
+
+returns-4 : tie.Need-returns-4
+returns-4 c = sym (other _ (λ l h. omega arith) (λ l h. omega arith) (λ l h. omega arith))
+
+returns-5 : tie.Need-returns-5
+returns-5 c = sym (other _ (λ l h. omega arith) (λ l h. omega arith) (λ l h. omega arith))
+
+returns-6 : tie.Need-returns-6
+returns-6 c = sym (other _ (λ l h. omega arith) (λ l h. omega arith) (λ l h. omega arith))
+
+returns-7 : tie.Need-returns-7
+returns-7 c = sym (other _ (λ l h. omega arith) (λ l h. omega arith) (λ l h. omega arith))
+
+pub nibble-spec : {M : Type 1} → statement M
+nibble-spec =
+    tie.close
+    (tie.spec
+    add-result
+    add-result-2
+    returns
+    returns-2
+    returns-3
+    returns-4
+    returns-5
+    returns-6
+    returns-7)
