@@ -13,15 +13,18 @@ use Rattle.meaning.specs.Digits.{worth, weight, top}
 use Rattle.meaning.specs.Forms.{Form}
 use Rattle.meaning.specs.Refusals.{First}
 use Rattle.meaning.specs.Recoding.{recodeRules}
+use Rattle.meaning.specs.Checking.{checkRules}
 use Rattle.meaning.specs.Running.{Residue}
 use Rattle.forms.proofs.Forms.{form-length, form-worth}
 use Rattle.scalar.proofs.Bytes.{Bytes, number-lt}
+use Rattle.judge.specs.declared.Verdict.{Verdict}
 use Rattle.run.specs.declared.Ran.{Ran}
 use Rattle.run.specs.Outcomes.{refusalOf, residueOf, Promise}
 use Rattle.run.proofs.Together.{together}
 use Rattle.promises.proofs.Recode as Recoding
 use Rattle.promises.proofs.Recode.{accepted-width}
 use Rattle.promises.proofs.Tape as Taping
+use Rattle.promises.proofs.Check as Checking
 
 module _ {form w : ℕ} {s : List ℕ} {digits₀ : List ℤ} {marks₀ : List ℕ} (o : Recoding.Outcome) (K : Recoding.Keeps form w s digits₀ marks₀ o)
     (z : o .tally .refusal ≡ 0) (bytes : Bytes s) where
@@ -42,7 +45,17 @@ module _ {form w : ℕ} {s : List ℕ} {digits₀ : List ℤ} {marks₀ : List �
   pub recoded-worth : worth (take (bitCount s + 1) (o .digits)) ≡ pos (number s)
   recoded-worth = form-worth w (number s) (bitCount s) two small form (take (bitCount s + 1) (o .digits)) recoded-form
 
+-- the check says yes for exactly the legal strings that are worth the scalar
+pub check-says : (w : ℕ) (s : List ℕ) (ds : List ℤ) (v : Verdict) → Checking.Keeps (checkRules w s ds) ds v → (v .refusal ≡ 0 → Checking.Legal w s ds) × (Checking.Legal w s ds → v .refusal ≡ 0)
+check-says w s ds v K = (Checking.check-yes w s ds v K, λ L. ap (λ (x : Verdict). x .refusal) (Checking.check-yes-only w s ds L v K))
+
 -- running the tape of a string that is worth the scalar gives the scalar times the base
 pub run-gives-scalar : {w m g : ℕ} {ds : List ℤ} {words₀ multiples₀ multiples : List ℕ} (N : ℕ) → worth ds ≡ pos N → (t : Taping.Outcome) → Taping.Keeps w ds words₀ t → t .taped .refusal ≡ 0
     → (r : Ran) → Promise w (take (t .taped .words) (t .words)) m g multiples₀ r multiples → refusalOf (r .outcome) ≡ 0 → Residue m (pos N *ℤ pos g) (residueOf (r .outcome))
 run-gives-scalar {m = m} {g = g} N e t K z r P y = subst (λ v. Residue m (v *ℤ pos g) (residueOf (r .outcome))) e (together K z P y .residue-is)
+
+-- so of a string that the check accepted
+pub checked-run : {w m g : ℕ} {ds : List ℤ} {words₀ multiples₀ multiples : List ℕ} (s : List ℕ) (v : Verdict) → Checking.Keeps (checkRules w s ds) ds v → v .refusal ≡ 0
+    → (t : Taping.Outcome) → Taping.Keeps w ds words₀ t → t .taped .refusal ≡ 0
+    → (r : Ran) → Promise w (take (t .taped .words) (t .words)) m g multiples₀ r multiples → refusalOf (r .outcome) ≡ 0 → Residue m (pos (number s) *ℤ pos g) (residueOf (r .outcome))
+checked-run {w = w} {ds = ds} s v C c t K z r P y = run-gives-scalar (number s) (Checking.check-yes w s ds v C c .worth-is) t K z r P y

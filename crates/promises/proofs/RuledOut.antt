@@ -1,5 +1,5 @@
 -- Calls that cannot keep their promise: refusing everything, one fixed string for all scalars, not writing at all, writing on a refusal, two refusals in the other
--- order, invented step counts. Each is a theorem: a call with that behaviour that kept its promise at every input would give a contradiction. Assumes nothing.
+-- order, invented step counts, a verdict that does not depend on the scalar. Each is a theorem: a call with that behaviour that kept its promise at every input would give a contradiction. Assumes nothing.
 use mathlib.Core.Path.{_≡_, refl, sym, ap, _∙_}
 use mathlib.Core.Logic.{_≢_, _⊎_, inl, inr}
 use mathlib.Core.List.{List, [], _∷_}
@@ -7,26 +7,33 @@ use Prim.Native.Nat.{ℕ, _+_, _<_}
 use native.Mathlib.Omega.{arith}
 use lib.Dec.{lit<, lit≤}
 use lib.IntN.{ℤ, pos, natAbs}
-use lib.ListN.{length, getD, take, replicate}
+use lib.ListN.{length, getD, take, replicate, List·getD-eq-default}
 use Rattle.meaning.specs.Scalars.{number, bitCount}
-use Rattle.meaning.specs.Digits.{weight, top, nonzero, inSet, allIn, listed}
+use Rattle.meaning.specs.Digits.{worth, weight, top, nonzero, inSet, allIn, listed, Apart}
+use Rattle.meaning.specs.Refusals.{Rule, First}
 use Rattle.meaning.specs.Recoding.{recodeRules}
+use Rattle.meaning.specs.Checking.{checkRules, nonadjacentRules}
 use Rattle.meaning.specs.Taping.{loads, adds, down, tapeOf, stepped, valueFrom}
 use Rattle.meaning.specs.Running.{multiplesOf, runRules}
 use Rattle.meaning.specs.Searching.{searchRules, Search}
+use Rattle.meaning.specs.Lines.{nibble, allHex, bytesOf, malformed, written, lineRules, Answer}
 use Rattle.forms.specs.Wnaf.{wnafDigit, wnafNext, wnafFrom}
 use Rattle.forms.proofs.Refusals.{first-only, kept-lent}
 use Rattle.recoder.specs.declared.Tally.{Tally}
 use Rattle.recoder.proofs.Formed.{is-wnaf}
-use Rattle.recoder.proofs.Judging.{refuses-2}
+use Rattle.recoder.proofs.Judging.{refuses-2, refuses-none}
 use Rattle.tape.specs.declared.Taped.{Taped}
 use Rattle.run.specs.declared.Ran.{Ran}
 use Rattle.run.specs.declared.Outcome.the-variants.{Residue}
 use Rattle.run.specs.Outcomes.{refusalOf, Promise}
 use Rattle.search.specs.declared.Searched.{Searched}
-use Rattle.promises.proofs.Rules.{recode-tells, run-tells, search-tells}
+use Rattle.judge.specs.declared.Verdict.{Verdict}
+use Rattle.tape.proofs.Refusals.{width-fine}
+use Rattle.promises.proofs.Rules.{recode-tells, check-tells, run-tells, search-tells, line-tells}
 use Rattle.promises.proofs.Recode as Recoding
 use Rattle.promises.proofs.Tape as Taping
+use Rattle.promises.proofs.Check as Checking
+use Rattle.promises.proofs.Check.{Legal, check-yes, check-yes-only, nonadjacent-yes-only}
 use Rattle.promises.proofs.Known.{Answered, allowed, answered, Written, Stepped, taped, ran}
 
 -- ---- recode
@@ -240,3 +247,61 @@ module _ (c : Runner) where
 pub search-not-refusing : (call : (number w : ℕ) → Searched) → ((number w : ℕ) → Search number w (call number w .refusal) (call number w .weight)) → ((number w : ℕ) → call number w .refusal ≢ 0) → ⊥
 search-not-refusing call keeps r =
     r 0 2 (first-only (searchRules 0 2) (search-tells 0 2) _ _ 0 0 (keeps 0 2 .first) (inr ((λ q h. h .0 .0 refl), inr ((λ q h. omega arith), (refl, refl)))) .0)
+
+-- ---- the checks
+-- the string 1 is worth the byte 1, and 2 it is not
+one-legal : Legal 2 (1 ∷ []) (pos 1 ∷ [])
+unfolding allIn inSet worth number
+one-legal = record { lawful = (lit≤ tt, lit≤ tt); few = lit≤ tt; short = lit≤ tt; digits = tt; worth-is = refl }
+
+one-apart : Apart 2 (pos 1 ∷ [])
+one-apart = record { one-of = λ i j l m h. List·getD-eq-default (pos 1 ∷ []) (pos 0) {n = j} (omega arith) }
+
+not-two : Legal 2 (2 ∷ []) (pos 1 ∷ []) → ⊥
+unfolding worth number
+not-two L = let z : _≡_ {A = ℕ} 1 2 = ap natAbs (L .worth-is) in omega arith
+
+-- a verdict for every input, which keeps the promise of a check by the given rules
+pub record Checker (rules : (w : ℕ) (s : List ℕ) (ds : List ℤ) → List Rule) : Type 0 where
+  pub call : (w : ℕ) (s : List ℕ) (ds : List ℤ) → Verdict
+  pub keeps : (w : ℕ) (s : List ℕ) (ds : List ℤ) → Checking.Keeps (rules w s ds) ds (call w s ds)
+
+-- refusing everything
+pub check-not-refusing : (c : Checker checkRules) → ((w : ℕ) (s : List ℕ) (ds : List ℤ) → c .call w s ds .refusal ≢ 0) → ⊥
+check-not-refusing c r = r 2 (1 ∷ []) (pos 1 ∷ []) (ap (λ (v : Verdict). v .refusal) (check-yes-only 2 (1 ∷ []) (pos 1 ∷ []) one-legal _ (c .keeps 2 (1 ∷ []) (pos 1 ∷ []))))
+
+pub nonadjacent-not-refusing : (c : Checker nonadjacentRules) → ((w : ℕ) (s : List ℕ) (ds : List ℤ) → c .call w s ds .refusal ≢ 0) → ⊥
+nonadjacent-not-refusing c r =
+    r 2 (1 ∷ []) (pos 1 ∷ []) (ap (λ (v : Verdict). v .refusal) (nonadjacent-yes-only 2 (1 ∷ []) (pos 1 ∷ []) one-legal one-apart _ (c .keeps 2 (1 ∷ []) (pos 1 ∷ []))))
+
+-- saying yes whatever the scalar is
+pub check-not-blind : (c : Checker checkRules) → ((w : ℕ) (s t : List ℕ) (ds : List ℤ) → length s ≡ length t → c .call w s ds .refusal ≡ 0 → c .call w t ds .refusal ≡ 0) → ⊥
+check-not-blind c r =
+    let one = ap (λ (v : Verdict). v .refusal) (check-yes-only 2 (1 ∷ []) (pos 1 ∷ []) one-legal _ (c .keeps 2 (1 ∷ []) (pos 1 ∷ []))) in
+    not-two (check-yes 2 (2 ∷ []) (pos 1 ∷ []) _ (c .keeps 2 (2 ∷ []) (pos 1 ∷ [])) (r 2 (1 ∷ []) (2 ∷ []) (pos 1 ∷ []) refl one))
+
+-- the string's length looked at before the scalar's
+pub check-not-swapped : (c : Checker checkRules) → ((w : ℕ) (s : List ℕ) (ds : List ℤ) → 529 < length ds → c .call w s ds .refusal ≡ 7) → ⊥
+check-not-swapped c r =
+    let s : List ℕ = replicate 67 0 in
+    let ds : List ℤ = replicate 530 (pos 0) in
+    let e = first-only (checkRules 2 s ds) (check-tells 2 s ds) _ _ 3 0 (c .keeps 2 s ds .first) (inr (width-fine (lit≤ tt, lit≤ tt), inl (refl, (lit< tt, refl)))) .0 in
+    let z : _≡_ {A = ℕ} 7 3 = sym (r 2 s ds (lit< tt)) ∙ e in
+    omega arith
+
+-- ---- the line
+-- the frame 02020101: wNAF at width 2 of the byte 1
+one-line : List ℕ
+one-line = 48 ∷ 50 ∷ 48 ∷ 50 ∷ 48 ∷ 49 ∷ 48 ∷ 49 ∷ []
+
+one-line-first : First (lineRules one-line) 0 0
+unfolding one-line malformed bytesOf allHex nibble number
+one-line-first = inr ((λ q h. h .0), refuses-none 2 2 (1 ∷ []) 9 9 (allowed 2 2 tt) (lit≤ tt) (lit≤ tt) (lit≤ tt) (lit< tt))
+
+-- refusing everything: no answer begins with the number 0
+pub line-not-refusing : (call : List ℕ → List ℕ) → ((line : List ℕ) → Answer line (call line)) → ((line : List ℕ) → take 2 (call line) ≢ 48 ∷ 48 ∷ []) → ⊥
+unfolding written
+line-not-refusing call keeps r =
+    let A = keeps one-line in
+    let (ds, f, e) = A .accepted (first-only (lineRules one-line) (line-tells one-line) _ _ 0 0 (A .first) one-line-first .0) in
+    r one-line (ap (take 2) e)

@@ -1,5 +1,6 @@
--- Every rule of every call tells its place, so the number and the place of a refusal are determined. Assumes nothing.
+-- The rules of every call tell their places, so the number and the place of a refusal are determined; and they stand in rising order. Assumes nothing.
 use mathlib.Core.List.{List}
+use lib.Dec.{lit<}
 use Prim.Native.Nat.{ℕ}
 use lib.IntN.{ℤ}
 use Rattle.meaning.specs.Recoding.{recodeRules}
@@ -10,6 +11,7 @@ use Rattle.meaning.specs.Reading.{readerRules}
 use Rattle.meaning.specs.Searching.{searchRules}
 use Rattle.meaning.specs.Lines.{lineRules}
 use Rattle.forms.proofs.Refusals.{AllTell, plain-tells, lowest-tells}
+use Rattle.promises.proofs.Exactly.{Rising}
 
 pub recode-tells : (form w : ℕ) (s : List ℕ) (places words : ℕ) → AllTell (recodeRules form w s places words)
 recode-tells form w s places words = (plain-tells _, (plain-tells _, (plain-tells _, (plain-tells _, (plain-tells _, (plain-tells _, tt))))))
@@ -34,3 +36,25 @@ search-tells number w = (plain-tells _, (plain-tells _, tt))
 
 pub line-tells : (line : List ℕ) → AllTell (lineRules line)
 line-tells line = (plain-tells _, recode-tells _ _ _ _ _)
+
+-- ---- in rising order
+pub recode-rises : (form w : ℕ) (s : List ℕ) (places words : ℕ) → Rising 0 (recodeRules form w s places words)
+recode-rises form w s places words = (lit< tt, (lit< tt, (lit< tt, (lit< tt, (lit< tt, (lit< tt, tt))))))
+
+pub check-rises : (w : ℕ) (s : List ℕ) (ds : List ℤ) → Rising 0 (checkRules w s ds)
+check-rises w s ds = (lit< tt, (lit< tt, (lit< tt, (lit< tt, (lit< tt, tt)))))
+
+pub nonadjacent-rises : (w : ℕ) (s : List ℕ) (ds : List ℤ) → Rising 0 (nonadjacentRules w s ds)
+nonadjacent-rises w s ds = (lit< tt, (lit< tt, (lit< tt, (lit< tt, (lit< tt, (lit< tt, tt))))))
+
+pub tape-rises : (w : ℕ) (ds : List ℤ) (room : ℕ) → Rising 0 (tapeRules w ds room)
+tape-rises w ds room = (lit< tt, (lit< tt, (lit< tt, (lit< tt, tt))))
+
+pub run-rises : (w : ℕ) (ws : List ℕ) (m room : ℕ) → Rising 0 (runRules w ws m room)
+run-rises w ws m room = (lit< tt, (lit< tt, (lit< tt, (lit< tt, (lit< tt, tt)))))
+
+pub reader-rises : (w : ℕ) (s : List ℕ) → Rising 0 (readerRules w s)
+reader-rises w s = (lit< tt, (lit< tt, tt))
+
+pub search-rises : (number w : ℕ) → Rising 0 (searchRules number w)
+search-rises number w = (lit< tt, (lit< tt, tt))
