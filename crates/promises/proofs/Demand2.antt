@@ -1,15 +1,13 @@
 -- Demand 2. Each form is digit for digit the one that its paper defines, from scalar to digits; the check says yes for exactly the strings that are legal and worth the
 -- scalar; and running the tape of such a string gives the scalar times the base, as a residue of the given modulus. From the calls' promises alone. Assumes nothing.
 use mathlib.Core.Path.{_≡_, sym, ap, subst, _∙_}
-use mathlib.Core.Logic.{_≢_}
 use mathlib.Core.List.{List}
 use Prim.Native.Nat.{ℕ, _+_, _-_, _^_, _<_, _≤_}
-use native.Mathlib.Omega.{arith}
 use lib.IntN.{ℤ, pos, _*ℤ_}
 use lib.ListN.{length, take}
 use lib.Seq.{take-at}
 use Rattle.meaning.specs.Scalars.{number, bitCount}
-use Rattle.meaning.specs.Digits.{worth, weight, top}
+use Rattle.meaning.specs.Digits.{worth}
 use Rattle.meaning.specs.Forms.{Form}
 use Rattle.meaning.specs.Refusals.{First}
 use Rattle.meaning.specs.Recoding.{recodeRules}

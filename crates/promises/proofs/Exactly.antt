@@ -1,9 +1,9 @@
 -- Rules in rising order: the number that a call gives is that of a rule which applies while none before it does, and 0 exactly when none applies.
 -- Assumes nothing.
-use mathlib.Core.Path.{_≡_, refl, sym, _∙_}
+use mathlib.Core.Path.{_≡_, refl}
 use mathlib.Core.Logic.{_≢_, _⊎_, inl, inr}
 use mathlib.Core.List.{List, [], _∷_}
-use Prim.Native.Nat.{ℕ, _<_, _≤_}
+use Prim.Native.Nat.{ℕ, _<_}
 use native.Mathlib.Omega.{arith}
 use Rattle.meaning.specs.Refusals.{Rule, First}
 use Rattle.forms.proofs.Refusals.{AllTell, first-only}

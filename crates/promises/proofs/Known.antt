@@ -1,7 +1,7 @@
 -- The known strings P1 to P12: a single list of cases, and one theorem that covers it. What the promise of recode, of tape and of run determines at each case
 -- is the listed answer. Assumes nothing.
 use mathlib.Core.Path.{_≡_, refl, sym, ap, subst, _∙_}
-use mathlib.Core.Logic.{_≢_, _⊎_, inl, inr, ⊎-elim}
+use mathlib.Core.Logic.{_≢_, _⊎_, inr, ⊎-elim}
 use mathlib.Core.Bool.{Bool, not, _&&_, _||_}
 use mathlib.Core.List.{List, [], _∷_, _++_}
 use Prim.Native.Nat.{ℕ, zero, suc, _+_, _-_, _*_, _^_, _<_, _≤_}
@@ -21,7 +21,6 @@ use Rattle.meaning.specs.Forms.{Form}
 use Rattle.meaning.specs.Recoding.{markWords, marksOf}
 use Rattle.forms.specs.Wnaf.{wnafDigit, wnafNext, wnafFrom}
 use Rattle.forms.specs.Closest.{closestUnder, closestOf}
-use Rattle.recoder.specs.declared.Tally.{Tally}
 use Rattle.recoder.specs.Judged.{Allowed}
 use Rattle.recoder.proofs.Judging.{refuses-none}
 use Rattle.recoder.proofs.Formed.{is-mof, is-wnaf, is-wmof, is-closest}
@@ -231,84 +230,65 @@ all-hold : (cs : List Case) → All Fits cs → All Holds cs
 all-hold [] h = tt
 all-hold (c ∷ cs) (a, h) = (holds c a, all-hold cs h)
 
+-- the first, and the others
+infixr 30 _&_
+_&_ : {A B : Type 0} → A → B → A × B
+a & b = (a, b)
+
+-- P11 and P12 compute
+pub eleventh : Stepped 2 (pos 1 ∷ pos 0 ∷ negsuc 0 ∷ pos 0 ∷ pos 1 ∷ zeros 4) (0x1000 ∷ 0 ∷ 0 ∷ 0x4000 ∷ 0 ∷ 0 ∷ 0x3000 ∷ []) 1000 7 91 4 2 (7 ∷ [])
+unfolding allIn inSet weight top nonzero tapeOf down loads adds valueFrom stepped multiplesOf listed
+eleventh =
+    record {
+      lawful = (lit≤ tt, lit≤ tt);
+      short = lit≤ tt;
+      in-set = tt;
+      words-are = refl;
+      doublings-are = refl;
+      additions-are = refl;
+      some = λ e. omega arith;
+      residue-is = record { quotient = pos 0; is = refl; least = lit< tt };
+      multiples-are = refl;
+    }
+
+pub twelfth : Stepped 3 (pos 0 ∷ negsuc 2 ∷ pos 0 ∷ pos 0 ∷ pos 3 ∷ zeros 4) (0x1001 ∷ 0 ∷ 0 ∷ 0 ∷ 0x4001 ∷ 0 ∷ []) 10 9 8 4 1 (9 ∷ 7 ∷ [])
+unfolding allIn inSet weight top nonzero tapeOf down loads adds valueFrom stepped multiplesOf listed
+twelfth =
+    record {
+      lawful = (lit≤ tt, lit≤ tt);
+      short = lit≤ tt;
+      in-set = tt;
+      words-are = refl;
+      doublings-are = refl;
+      additions-are = refl;
+      some = λ e. omega arith;
+      residue-is = record { quotient = pos 37; is = refl; least = lit< tt };
+      multiples-are = refl;
+    }
+
 -- every case computes: the numbers, and each form's string by `refl`
 all-fit : All Fits cases
-unfolding Fits cases allIn inSet weight top nonzero tapeOf down loads adds valueFrom stepped multiplesOf stringOf number mof listed wnafFrom wnafDigit wnafNext wmof wmofUnder closestOf closestUnder windowWorth shrink trailingZeros
-all-fit = (
-  (lit≤ tt, lit< tt, ((tt, refl), tt)),
-  (
-    (lit≤ tt, lit< tt, ((tt, refl), tt)),
-    (
-      (lit≤ tt, lit< tt, ((tt, refl), tt)),
-      (
-        (lit≤ tt, lit< tt, ((tt, refl), tt)),
-        (
-          (lit≤ tt, lit< tt, ((tt, refl), ((tt, refl), ((tt, refl), tt)))),
-          (
-            (lit≤ tt, lit< tt, ((tt, refl), tt)),
-            (
-              (lit≤ tt, lit< tt, ((tt, refl), ((tt, refl), tt))),
-              (
-                (lit≤ tt, lit< tt, ((tt, refl), ((tt, refl), ((tt, refl), tt)))),
-                (
-                  (lit≤ tt, lit< tt, ((tt, refl), ((tt, refl), ((tt, refl), ((tt, refl), tt))))),
-                  (
-                    (lit≤ tt, lit< tt, ((tt, refl), ((tt, refl), ((tt, refl), tt)))),
-                    (
-                      (lit≤ tt, lit< tt, ((tt, refl), ((tt, refl), ((tt, refl), tt)))),
-                      (
-                        (lit≤ tt, lit< tt, ((tt, refl), ((tt, refl), ((tt, refl), tt)))),
-                        (
-                          (lit≤ tt, lit< tt, ((tt, refl), ((tt, refl), ((tt, refl), tt)))),
-                          (
-                            (lit≤ tt, lit< tt, ((tt, refl), ((tt, refl), ((tt, refl), tt)))),
-                            (
-                              (lit≤ tt, lit< tt, ((tt, refl), ((tt, refl), ((tt, refl), tt)))),
-                              (
-                                (lit≤ tt, lit< tt, ((tt, refl), tt)),
-                                (
-                                  record {
-                                    lawful = (lit≤ tt, lit≤ tt);
-                                    short = lit≤ tt;
-                                    in-set = tt;
-                                    words-are = refl;
-                                    doublings-are = refl;
-                                    additions-are = refl;
-                                    some = λ e. omega arith;
-                                    residue-is = record { quotient = pos 0; is = refl; least = lit< tt };
-                                    multiples-are = refl;
-                                  },
-                                  (
-                                    record {
-                                      lawful = (lit≤ tt, lit≤ tt);
-                                      short = lit≤ tt;
-                                      in-set = tt;
-                                      words-are = refl;
-                                      doublings-are = refl;
-                                      additions-are = refl;
-                                      some = λ e. omega arith;
-                                      residue-is = record { quotient = pos 37; is = refl; least = lit< tt };
-                                      multiples-are = refl;
-                                    },
-                                    tt,
-                                  ),
-                                ),
-                              ),
-                            ),
-                          ),
-                        ),
-                      ),
-                    ),
-                  ),
-                ),
-              ),
-            ),
-          ),
-        ),
-      ),
-    ),
-  ),
-)
+unfolding Fits cases stringOf number mof listed wnafFrom wnafDigit wnafNext wmof wmofUnder closestOf closestUnder windowWorth shrink trailingZeros
+all-fit =
+    (lit≤ tt, lit< tt, (tt, refl) & tt)
+    & (lit≤ tt, lit< tt, (tt, refl) & tt)
+    & (lit≤ tt, lit< tt, (tt, refl) & tt)
+    & (lit≤ tt, lit< tt, (tt, refl) & tt)
+    & (lit≤ tt, lit< tt, (tt, refl) & (tt, refl) & (tt, refl) & tt)
+    & (lit≤ tt, lit< tt, (tt, refl) & tt)
+    & (lit≤ tt, lit< tt, (tt, refl) & (tt, refl) & tt)
+    & (lit≤ tt, lit< tt, (tt, refl) & (tt, refl) & (tt, refl) & tt)
+    & (lit≤ tt, lit< tt, (tt, refl) & (tt, refl) & (tt, refl) & (tt, refl) & tt)
+    & (lit≤ tt, lit< tt, (tt, refl) & (tt, refl) & (tt, refl) & tt)
+    & (lit≤ tt, lit< tt, (tt, refl) & (tt, refl) & (tt, refl) & tt)
+    & (lit≤ tt, lit< tt, (tt, refl) & (tt, refl) & (tt, refl) & tt)
+    & (lit≤ tt, lit< tt, (tt, refl) & (tt, refl) & (tt, refl) & tt)
+    & (lit≤ tt, lit< tt, (tt, refl) & (tt, refl) & (tt, refl) & tt)
+    & (lit≤ tt, lit< tt, (tt, refl) & (tt, refl) & (tt, refl) & tt)
+    & (lit≤ tt, lit< tt, (tt, refl) & tt)
+    & eleventh
+    & twelfth
+    & tt
 
 -- P1 to P12 hold of the promises
 pub known-strings : All Holds cases

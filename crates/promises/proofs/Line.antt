@@ -1,7 +1,7 @@
 -- The promise of the line's answer: two answers to one line are equal, so are two outputs for one input, and so is all that two calls leave in lent memory.
 -- Assumes nothing.
 use mathlib.Core.Path.{_≡_, refl, sym, ap, subst, _∙_}
-use mathlib.Core.Logic.{_≢_, inl, inr}
+use mathlib.Core.Logic.{inl, inr}
 use mathlib.Core.Bool.{Bool, true, false, not}
 use mathlib.Core.List.{List, [], _∷_, _++_}
 use Prim.Native.Nat.{ℕ, _+_, _≤_}
@@ -14,12 +14,11 @@ use lib.Seq.{length-take-le}
 use Rattle.meaning.specs.Scalars.{number, bitCount}
 use Rattle.meaning.specs.Digits.{mostPlaces}
 use Rattle.meaning.specs.Refusals.{First}
-use Rattle.meaning.specs.Forms.{Form}
-use Rattle.meaning.specs.Recoding.{markWords, Recode}
-use Rattle.meaning.specs.Lines.{lineFeed, bytesOf, malformed, formOf, widthOf, scalarOf, lineRules, acceptedBytes, written, Answer, Answers}
+use Rattle.meaning.specs.Recoding.{markWords}
+use Rattle.meaning.specs.Lines.{lineFeed, malformed, formOf, widthOf, scalarOf, lineRules, acceptedBytes, written, Answer, Answers}
 use Rattle.forms.proofs.Refusals.{first-only}
 use Rattle.forms.proofs.Forms.{form-same}
-use Rattle.lines.specs.Answered.{mostFrame, mostAnswer, Lent, Kept, Worked, Filled, Untouched, Answered}
+use Rattle.lines.specs.Answered.{mostFrame, mostAnswer, Lent, Kept, Worked, Filled, Answered}
 use Rattle.promises.proofs.Rules.{line-tells}
 use Rattle.promises.proofs.Recode as Recoding
 use Rattle.promises.proofs.Recode.{accepted-width, recode-determined}

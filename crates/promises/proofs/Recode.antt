@@ -1,19 +1,18 @@
 -- The promise of recode: two outcomes that satisfy it for one input are equal; and calls that cannot satisfy it. Assumes nothing.
 use mathlib.Core.Path.{_≡_, refl, sym, ap, subst, _∙_}
-use mathlib.Core.Logic.{_≢_, _⊎_, inl, inr}
-use mathlib.Core.List.{List, [], _∷_, _++_}
-use Prim.Native.Nat.{ℕ, zero, suc, _+_, _*_, _^_, _<_, _≤_}
+use mathlib.Core.Logic.{inl, inr}
+use mathlib.Core.List.{List, _++_}
+use Prim.Native.Nat.{ℕ, _+_, _≤_}
 use native.Mathlib.Omega.{arith}
 use native.Mathlib.Decide.{decLe, ℕ-discrete}
-use lib.IntN.{ℤ, pos, negsuc}
-use lib.ListN.{length, drop, replicate}
+use lib.IntN.{ℤ}
+use lib.ListN.{length, drop}
 use Rattle.meaning.specs.Scalars.{number, bitCount}
-use Rattle.meaning.specs.Digits.{worth, weight, top}
+use Rattle.meaning.specs.Digits.{weight, top}
 use Rattle.meaning.specs.Refusals.{First}
-use Rattle.meaning.specs.Forms.{Form}
 use Rattle.meaning.specs.Recoding.{markWords, marksOf, recodeRules, Recode, Recoded}
 use Rattle.forms.proofs.Refusals.{first-only}
-use Rattle.forms.proofs.Forms.{form-same, form-worth}
+use Rattle.forms.proofs.Forms.{form-same}
 use Rattle.recoder.specs.declared.Tally.{Tally}
 use Rattle.promises.proofs.Rules.{recode-tells}
 

@@ -6,15 +6,15 @@ use mathlib.Core.List.{List, [], _∷_}
 use Prim.Native.Nat.{ℕ, _+_, _<_}
 use native.Mathlib.Omega.{arith}
 use lib.Dec.{lit<, lit≤}
-use lib.IntN.{ℤ, pos, natAbs}
+use lib.IntN.{ℤ, pos, negsuc, natAbs}
 use lib.ListN.{length, getD, take, replicate, List·getD-eq-default}
 use Rattle.meaning.specs.Scalars.{number, bitCount}
-use Rattle.meaning.specs.Digits.{worth, weight, top, nonzero, inSet, allIn, listed, Apart}
-use Rattle.meaning.specs.Refusals.{Rule, First}
+use Rattle.meaning.specs.Digits.{worth, weight, top, nonzero, inSet, allIn, Apart}
+use Rattle.meaning.specs.Refusals.{Rule, First, granted}
 use Rattle.meaning.specs.Recoding.{recodeRules}
 use Rattle.meaning.specs.Checking.{checkRules, nonadjacentRules}
-use Rattle.meaning.specs.Taping.{loads, adds, down, tapeOf, stepped, valueFrom}
-use Rattle.meaning.specs.Running.{multiplesOf, runRules}
+use Rattle.meaning.specs.Taping.{tapeOf, doublings, tapeRules}
+use Rattle.meaning.specs.Running.{runRules}
 use Rattle.meaning.specs.Searching.{searchRules, Search}
 use Rattle.meaning.specs.Lines.{nibble, allHex, bytesOf, malformed, written, lineRules, Answer}
 use Rattle.forms.specs.Wnaf.{wnafDigit, wnafNext, wnafFrom}
@@ -28,13 +28,14 @@ use Rattle.run.specs.declared.Outcome.the-variants.{Residue}
 use Rattle.run.specs.Outcomes.{refusalOf, Promise}
 use Rattle.search.specs.declared.Searched.{Searched}
 use Rattle.judge.specs.declared.Verdict.{Verdict}
-use Rattle.tape.proofs.Refusals.{width-fine}
-use Rattle.promises.proofs.Rules.{recode-tells, check-tells, run-tells, search-tells, line-tells}
+use Rattle.tape.proofs.Refusals.{width-fine, not-plain}
+use Rattle.promises.proofs.Rules.{recode-tells, check-tells, tape-tells, run-tells, search-tells, line-tells}
+use Rattle.promises.proofs.Exactly.{none-first}
 use Rattle.promises.proofs.Recode as Recoding
 use Rattle.promises.proofs.Tape as Taping
 use Rattle.promises.proofs.Check as Checking
 use Rattle.promises.proofs.Check.{Legal, check-yes, check-yes-only, nonadjacent-yes-only}
-use Rattle.promises.proofs.Known.{Answered, allowed, answered, Written, Stepped, taped, ran}
+use Rattle.promises.proofs.Known.{Answered, allowed, answered, Written, taped, ran, eleventh, twelfth}
 
 -- ---- recode
 -- an outcome for every input, which keeps the promise
@@ -117,64 +118,41 @@ recode-not-swapped c r =
     let z : _≡_ {A = ℕ} 3 2 = sym (r 2 9 s [] [] (lit< tt)) ∙ e in
     omega arith
 
--- ---- tape and run
--- the strings 1 and 3 = 1 + 2 · 1, their tapes and runs
-one-stepped : Stepped 2 (pos 1 ∷ []) (0x1000 ∷ []) 5 1 1 0 0 (1 ∷ [])
-unfolding allIn inSet weight top nonzero tapeOf down loads adds valueFrom stepped multiplesOf listed
-one-stepped =
-    record {
-      lawful = (lit≤ tt, lit≤ tt);
-      short = lit≤ tt;
-      in-set = tt;
-      words-are = refl;
-      doublings-are = refl;
-      additions-are = refl;
-      some = λ e. omega arith;
-      residue-is = record { quotient = pos 0; is = refl; least = lit< tt };
-      multiples-are = refl;
-    }
-
-three-stepped : Stepped 2 (pos 1 ∷ pos 1 ∷ []) (0x1000 ∷ 0 ∷ 0x3000 ∷ []) 5 1 3 1 1 (1 ∷ [])
-unfolding allIn inSet weight top nonzero tapeOf down loads adds valueFrom stepped multiplesOf listed
-three-stepped =
-    record {
-      lawful = (lit≤ tt, lit≤ tt);
-      short = lit≤ tt;
-      in-set = tt;
-      words-are = refl;
-      doublings-are = refl;
-      additions-are = refl;
-      some = λ e. omega arith;
-      residue-is = record { quotient = pos 0; is = refl; least = lit< tt };
-      multiples-are = refl;
-    }
-
+-- ---- tape and run, by P11 and P12
 pub record Taper : Type 0 where
   pub call : (w : ℕ) (ds : List ℤ) (words₀ : List ℕ) → Taping.Outcome
   pub keeps : (w : ℕ) (ds : List ℤ) (words₀ : List ℕ) → Taping.Keeps w ds words₀ (call w ds words₀)
 
--- a lent buffer of three words, none of them a step
+-- a lent buffer of seven words, none of them a step
 words-lent : List ℕ
-words-lent = 9 ∷ 9 ∷ 9 ∷ []
+words-lent = replicate 7 9
 
 module _ (t : Taper) where
-  one-taped : Written (0x1000 ∷ []) 0 0 words-lent (t .call 2 (pos 1 ∷ []) words-lent)
-  unfolding words-lent
-  one-taped = taped 2 (pos 1 ∷ []) (0x1000 ∷ []) 5 1 1 0 0 (1 ∷ []) one-stepped words-lent (lit≤ tt) _ (t .keeps 2 (pos 1 ∷ []) words-lent)
+  -- what it does with the strings of P2 and P5
+  thirteen : Taping.Outcome
+  thirteen = t .call 2 (pos 1 ∷ pos 0 ∷ negsuc 0 ∷ pos 0 ∷ pos 1 ∷ replicate 4 (pos 0)) words-lent
 
-  three-taped : Written (0x1000 ∷ 0 ∷ 0x3000 ∷ []) 1 1 words-lent (t .call 2 (pos 1 ∷ pos 1 ∷ []) words-lent)
-  unfolding words-lent
-  three-taped = taped 2 (pos 1 ∷ pos 1 ∷ []) (0x1000 ∷ 0 ∷ 0x3000 ∷ []) 5 1 3 1 1 (1 ∷ []) three-stepped words-lent (lit≤ tt) _ (t .keeps 2 (pos 1 ∷ pos 1 ∷ []) words-lent)
+  thirteen-taped : Written (0x1000 ∷ 0 ∷ 0 ∷ 0x4000 ∷ 0 ∷ 0 ∷ 0x3000 ∷ []) 4 2 words-lent thirteen
+  unfolding words-lent thirteen
+  thirteen-taped = taped 2 _ _ 1000 7 91 4 2 (7 ∷ []) eleventh words-lent (lit≤ tt) _ (t .keeps 2 _ words-lent)
+
+  forty-two : Taping.Outcome
+  forty-two = t .call 3 (pos 0 ∷ negsuc 2 ∷ pos 0 ∷ pos 0 ∷ pos 3 ∷ replicate 4 (pos 0)) words-lent
+
+  forty-two-taped : Written (0x1001 ∷ 0 ∷ 0 ∷ 0 ∷ 0x4001 ∷ 0 ∷ []) 4 1 words-lent forty-two
+  unfolding words-lent forty-two
+  forty-two-taped = taped 3 _ _ 10 9 8 4 1 (9 ∷ 7 ∷ []) twelfth words-lent (lit≤ tt) _ (t .keeps 3 _ words-lent)
 
   -- refusing everything
   pub tape-not-refusing : ((w : ℕ) (ds : List ℤ) (words₀ : List ℕ) → t .call w ds words₀ .taped .refusal ≢ 0) → ⊥
-  tape-not-refusing r = r 2 (pos 1 ∷ []) words-lent (ap (λ (x : Taped). x .refusal) (one-taped .taped-is))
+  unfolding thirteen
+  tape-not-refusing r = r 2 _ words-lent (ap (λ (x : Taped). x .refusal) (thirteen-taped .taped-is))
 
   -- not writing at all
   pub tape-not-idle : ((w : ℕ) (ds : List ℤ) (words₀ : List ℕ) → t .call w ds words₀ .words ≡ words₀) → ⊥
-  unfolding words-lent
+  unfolding words-lent thirteen
   tape-not-idle r =
-      let z : _≡_ {A = ℕ} 9 0x1000 = ap (λ ws. getD ws 0 0) (sym (r 2 (pos 1 ∷ []) words-lent) ∙ one-taped .words-are) in
+      let z : _≡_ {A = ℕ} 9 0x1000 = ap (λ ws. getD ws 0 0) (sym (r 2 _ words-lent) ∙ thirteen-taped .words-are) in
       omega arith
 
   -- writing on a refusal
@@ -183,21 +161,37 @@ module _ (t : Taper) where
 
   -- the load counted as an addition
   pub tape-not-counting-loads : ((w : ℕ) (ds : List ℤ) (words₀ : List ℕ) → t .call w ds words₀ .taped .refusal ≡ 0 → t .call w ds words₀ .taped .additions ≡ weight ds) → ⊥
-  unfolding weight nonzero
+  unfolding weight nonzero thirteen
   tape-not-counting-loads r =
-      let T = one-taped .taped-is in
-      let z : _≡_ {A = ℕ} 0 1 = sym (ap (λ (x : Taped). x .additions) T) ∙ r 2 (pos 1 ∷ []) words-lent (ap (λ (x : Taped). x .refusal) T) in
+      let T = thirteen-taped .taped-is in
+      let z : _≡_ {A = ℕ} 2 3 = sym (ap (λ (x : Taped). x .additions) T) ∙ r 2 _ words-lent (ap (λ (x : Taped). x .refusal) T) in
       omega arith
 
-  -- step counts that do not depend on the string
-  pub tape-not-inventing : (doubled added : ℕ)
-      → ((w : ℕ) (ds : List ℤ) (words₀ : List ℕ) → t .call w ds words₀ .taped .refusal ≡ 0 → (t .call w ds words₀ .taped .doublings ≡ doubled) × (t .call w ds words₀ .taped .additions ≡ added)) → ⊥
-  tape-not-inventing doubled added r =
-      let A = one-taped .taped-is in
-      let B = three-taped .taped-is in
-      let a = r 2 (pos 1 ∷ []) words-lent (ap (λ (x : Taped). x .refusal) A) in
-      let b = r 2 (pos 1 ∷ pos 1 ∷ []) words-lent (ap (λ (x : Taped). x .refusal) B) in
-      omega (arith, a .1, b .1, ap (λ (x : Taped). x .additions) A, ap (λ (x : Taped). x .additions) B)
+  -- the empty string's tape is accepted and has no doubling
+  empty-taped : t .call 2 [] [] .taped .refusal ≡ 0
+  unfolding tapeOf
+  empty-taped =
+      first-only (tapeRules 2 [] 0) (tape-tells 2 [] 0) _ _ 0 0 (t .keeps 2 [] [] .first)
+      (none-first (tapeRules 2 [] 0) (width-fine (lit≤ tt, lit≤ tt), (not-plain (λ h. omega arith), ((λ p h. omega (arith, h .0 .within)), (not-plain (λ h. omega arith), tt))))) .0
+
+  -- doublings that do not depend on the string
+  pub tape-not-inventing-doublings : (doubled : ℕ) → ((w : ℕ) (ds : List ℤ) (words₀ : List ℕ) → t .call w ds words₀ .taped .refusal ≡ 0 → t .call w ds words₀ .taped .doublings ≡ doubled) → ⊥
+  unfolding top thirteen
+  tape-not-inventing-doublings doubled r =
+      let A = thirteen-taped .taped-is in
+      let a = r 2 _ words-lent (ap (λ (x : Taped). x .refusal) A) in
+      let b = r 2 [] [] empty-taped in
+      omega (arith, a, b, ap (λ (x : Taped). x .doublings) A, t .keeps 2 [] [] .doublings-are ∙ ap (λ x. granted x 0) empty-taped)
+
+  -- additions that do not depend on the string
+  pub tape-not-inventing-additions : (added : ℕ) → ((w : ℕ) (ds : List ℤ) (words₀ : List ℕ) → t .call w ds words₀ .taped .refusal ≡ 0 → t .call w ds words₀ .taped .additions ≡ added) → ⊥
+  unfolding thirteen forty-two
+  tape-not-inventing-additions added r =
+      let A = thirteen-taped .taped-is in
+      let B = forty-two-taped .taped-is in
+      let a = r 2 _ words-lent (ap (λ (x : Taped). x .refusal) A) in
+      let b = r 3 _ words-lent (ap (λ (x : Taped). x .refusal) B) in
+      omega (arith, a, b, ap (λ (x : Taped). x .additions) A, ap (λ (x : Taped). x .additions) B)
 
 pub record Runner : Type 0 where
   pub call : (w : ℕ) (ws : List ℕ) (m g : ℕ) (multiples₀ : List ℕ) → Ran
@@ -205,34 +199,52 @@ pub record Runner : Type 0 where
   pub keeps : (w : ℕ) (ws : List ℕ) (m g : ℕ) (multiples₀ : List ℕ) → Promise w ws m g multiples₀ (call w ws m g multiples₀) (multiples w ws m g multiples₀)
 
 module _ (c : Runner) where
-  one-ran : (c .call 2 (0x1000 ∷ []) 5 1 (9 ∷ []) ≡ record { outcome = Residue 1; doublings = 0; additions = 0; cost = 0 }) × (c .multiples 2 (0x1000 ∷ []) 5 1 (9 ∷ []) ≡ 1 ∷ [])
-  one-ran = ran 2 (pos 1 ∷ []) (0x1000 ∷ []) 5 1 1 0 0 (1 ∷ []) one-stepped (9 ∷ []) (lit≤ tt) _ _ (c .keeps 2 (0x1000 ∷ []) 5 1 (9 ∷ []))
+  -- what it does with the tapes of P11 and P12
+  thirteen-ran : (c .call 2 (0x1000 ∷ 0 ∷ 0 ∷ 0x4000 ∷ 0 ∷ 0 ∷ 0x3000 ∷ []) 1000 7 (9 ∷ []) ≡ record { outcome = Residue 91; doublings = 4; additions = 2; cost = 0 })
+      × (c .multiples 2 (0x1000 ∷ 0 ∷ 0 ∷ 0x4000 ∷ 0 ∷ 0 ∷ 0x3000 ∷ []) 1000 7 (9 ∷ []) ≡ 7 ∷ [])
+  thirteen-ran = ran 2 _ _ 1000 7 91 4 2 (7 ∷ []) eleventh (9 ∷ []) (lit≤ tt) _ _ (c .keeps 2 _ 1000 7 (9 ∷ []))
 
-  three-ran : c .call 2 (0x1000 ∷ 0 ∷ 0x3000 ∷ []) 5 1 (9 ∷ []) ≡ record { outcome = Residue 3; doublings = 1; additions = 1; cost = 0 }
-  three-ran = ran 2 (pos 1 ∷ pos 1 ∷ []) (0x1000 ∷ 0 ∷ 0x3000 ∷ []) 5 1 3 1 1 (1 ∷ []) three-stepped (9 ∷ []) (lit≤ tt) _ _ (c .keeps 2 (0x1000 ∷ 0 ∷ 0x3000 ∷ []) 5 1 (9 ∷ [])) .0
+  forty-two-ran : c .call 3 (0x1001 ∷ 0 ∷ 0 ∷ 0 ∷ 0x4001 ∷ 0 ∷ []) 10 9 (9 ∷ 9 ∷ []) ≡ record { outcome = Residue 8; doublings = 4; additions = 1; cost = 1 }
+  forty-two-ran = ran 3 _ _ 10 9 8 4 1 (9 ∷ 7 ∷ []) twelfth (9 ∷ 9 ∷ []) (lit≤ tt) _ _ (c .keeps 3 _ 10 9 (9 ∷ 9 ∷ [])) .0
 
   -- refusing everything
   pub run-not-refusing : ((w : ℕ) (ws : List ℕ) (m g : ℕ) (multiples₀ : List ℕ) → refusalOf (c .call w ws m g multiples₀ .outcome) ≢ 0) → ⊥
-  run-not-refusing r = r 2 (0x1000 ∷ []) 5 1 (9 ∷ []) (ap (λ (x : Ran). refusalOf (x .outcome)) (one-ran .0))
+  run-not-refusing r = r 2 _ 1000 7 (9 ∷ []) (ap (λ (x : Ran). refusalOf (x .outcome)) (thirteen-ran .0))
 
   -- storing no multiples
   pub run-not-idle : ((w : ℕ) (ws : List ℕ) (m g : ℕ) (multiples₀ : List ℕ) → c .multiples w ws m g multiples₀ ≡ multiples₀) → ⊥
-  run-not-idle r = let z : _≡_ {A = ℕ} 9 1 = ap (λ ws. getD ws 0 0) (sym (r 2 (0x1000 ∷ []) 5 1 (9 ∷ [])) ∙ one-ran .1) in omega arith
+  run-not-idle r = let z : _≡_ {A = ℕ} 9 7 = ap (λ ws. getD ws 0 0) (sym (r 2 _ 1000 7 (9 ∷ [])) ∙ thirteen-ran .1) in omega arith
 
   -- storing multiples on a refusal
   pub run-not-storing : (w : ℕ) (ws : List ℕ) (m g : ℕ) (multiples₀ : List ℕ) → refusalOf (c .call w ws m g multiples₀ .outcome) ≢ 0 → c .multiples w ws m g multiples₀ ≢ multiples₀ → ⊥
   run-not-storing w ws m g multiples₀ n h = h (c .keeps w ws m g multiples₀ .run .multiples-are ∙ kept-lent (refusalOf (c .call w ws m g multiples₀ .outcome)) _ multiples₀ n)
 
-  -- a residue or step counts that do not depend on the tape
-  pub run-not-inventing : (doubled added : ℕ)
-      → ((w : ℕ) (ws : List ℕ) (m g : ℕ) (multiples₀ : List ℕ) → refusalOf (c .call w ws m g multiples₀ .outcome) ≡ 0
-      → (c .call w ws m g multiples₀ .doublings ≡ doubled) × (c .call w ws m g multiples₀ .additions ≡ added)) → ⊥
-  run-not-inventing doubled added r =
-      let A = one-ran .0 in
-      let B = three-ran in
-      let a = r 2 (0x1000 ∷ []) 5 1 (9 ∷ []) (ap (λ (x : Ran). refusalOf (x .outcome)) A) in
-      let b = r 2 (0x1000 ∷ 0 ∷ 0x3000 ∷ []) 5 1 (9 ∷ []) (ap (λ (x : Ran). refusalOf (x .outcome)) B) in
-      omega (arith, a .0, b .0, ap (λ (x : Ran). x .doublings) A, ap (λ (x : Ran). x .doublings) B)
+  -- the empty tape is accepted and has no doubling
+  empty-ran : refusalOf (c .call 2 [] 5 1 (9 ∷ []) .outcome) ≡ 0
+  empty-ran =
+      first-only (runRules 2 [] 5 1) (run-tells 2 [] 5 1) _ _ 0 0 (c .keeps 2 [] 5 1 (9 ∷ []) .run .first)
+      (none-first (runRules 2 [] 5 1)
+      (width-fine (lit≤ tt, lit≤ tt), (not-plain (λ h. omega arith), (not-plain (λ h. omega arith), (not-plain (λ h. omega arith), ((λ p h. omega (arith, h .0 .within)), tt)))))) .0
+
+  -- doublings that do not depend on the tape
+  pub run-not-inventing-doublings : (doubled : ℕ)
+      → ((w : ℕ) (ws : List ℕ) (m g : ℕ) (multiples₀ : List ℕ) → refusalOf (c .call w ws m g multiples₀ .outcome) ≡ 0 → c .call w ws m g multiples₀ .doublings ≡ doubled) → ⊥
+  unfolding doublings
+  run-not-inventing-doublings doubled r =
+      let A = thirteen-ran .0 in
+      let a = r 2 _ 1000 7 (9 ∷ []) (ap (λ (x : Ran). refusalOf (x .outcome)) A) in
+      let b = r 2 [] 5 1 (9 ∷ []) empty-ran in
+      omega (arith, a, b, ap (λ (x : Ran). x .doublings) A, c .keeps 2 [] 5 1 (9 ∷ []) .run .doublings-are ∙ ap (λ x. granted x 0) empty-ran)
+
+  -- additions that do not depend on the tape
+  pub run-not-inventing-additions : (added : ℕ)
+      → ((w : ℕ) (ws : List ℕ) (m g : ℕ) (multiples₀ : List ℕ) → refusalOf (c .call w ws m g multiples₀ .outcome) ≡ 0 → c .call w ws m g multiples₀ .additions ≡ added) → ⊥
+  run-not-inventing-additions added r =
+      let A = thirteen-ran .0 in
+      let B = forty-two-ran in
+      let a = r 2 _ 1000 7 (9 ∷ []) (ap (λ (x : Ran). refusalOf (x .outcome)) A) in
+      let b = r 3 _ 10 9 (9 ∷ 9 ∷ []) (ap (λ (x : Ran). refusalOf (x .outcome)) B) in
+      omega (arith, a, b, ap (λ (x : Ran). x .additions) A, ap (λ (x : Ran). x .additions) B)
 
   -- the modulus looked at before the width
   pub run-not-swapped : ((w : ℕ) (ws : List ℕ) (g : ℕ) (multiples₀ : List ℕ) → refusalOf (c .call w ws 0 g multiples₀ .outcome) ≡ 12) → ⊥

@@ -1,6 +1,5 @@
 -- The promise of run: two outcomes that satisfy it for one input are equal, the enum of the answer included. Assumes nothing.
 use mathlib.Core.Path.{_≡_, refl, sym, ap, _∙_}
-use mathlib.Core.Logic.{_≢_}
 use mathlib.Core.List.{List, _++_}
 use Prim.Native.Nat.{ℕ, _-_}
 use lib.IntN.{ℤ, pos, _*ℤ_}
@@ -8,11 +7,10 @@ use lib.ListN.{length, drop}
 use Rattle.laws.proofs.Division.{same-floor}
 use Rattle.meaning.specs.Refusals.{granted, kept}
 use Rattle.meaning.specs.Taping.{tapeValue, doublings, additions}
-use Rattle.meaning.specs.Running.{entries, multiplesOf, Residue, runRules, Run}
+use Rattle.meaning.specs.Running.{entries, multiplesOf, Residue, runRules}
 use Rattle.forms.proofs.Refusals.{first-only}
 use Rattle.run.specs.declared.Outcome.{Outcome}
 use Rattle.run.specs.declared.Outcome.the-variants as variants
-use Rattle.run.specs.declared.Refusal.{Refusal}
 use Rattle.run.specs.declared.Ran.{Ran}
 use Rattle.run.specs.Outcomes.{refusalOf, placeOf, residueOf, Numbered, Promise}
 use Rattle.promises.proofs.Rules.{run-tells}
