@@ -20,7 +20,7 @@ returns : tie.Need-returns
 returns c = sym (short _ (c .if1 .taken))
 
 returns-2 : tie.Need-returns-2
-returns-2 c = sym (long _ (c .if2 .taken))
+returns-2 c = sym (long (now (c .before .before .before .args .line)) (omega arith))
 
 returns-3 : tie.Need-returns-3
 returns-3 c = sym (odd _ (c .if3 .taken))

@@ -18,12 +18,12 @@ same-length c = search needs
 returns : tie.Need-returns
 returns c =
     let s = c .before in
-    record { within = omega arith; keeps = λ p k. keeps-more p (now (s .args .line)) (s .args .kept) (s .args .c) k (c .if1 .taken) (s .pre .1) }
+    record { within = omega arith; keeps = λ p k. keeps-more p (now (s .args .line)) (s .args .kept) (s .args .c) k (omega arith) (s .pre .1) }
 
 returns-2 : tie.Need-returns-2
 returns-2 c =
     let s = c .before in
-    record { within = s .pre .0; keeps = λ p k. keeps-full p (now (s .args .line)) (s .args .kept) (s .args .c) k (c .if1 .left) }
+    record { within = s .pre .0; keeps = λ p k. keeps-full p (now (s .args .line)) (s .args .kept) (s .args .c) k (omega arith) }
 
 pub keep-spec : {M : Type 1} → statement M
 keep-spec = tie.close (tie.spec slice-write-line add-result same-length returns returns-2)
