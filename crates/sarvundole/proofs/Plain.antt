@@ -1,0 +1,27 @@
+-- Answers that hold an enum, told by plain numbers.
+-- Assumes nothing.
+use mathlib.Core.Path.{_≡_, subst, ap}
+use mathlib.Core.List.{List}
+use Prim.Native.Nat.{ℕ}
+use Rattle.meaning.specs.Running.{Run}
+use Rattle.meaning.specs.Reading.{sequence, readAt}
+use Rattle.run.specs.declared.Outcome.{Outcome}
+use Rattle.run.specs.declared.Ran.{Ran}
+use Rattle.run.specs.Outcomes.{refusalOf, placeOf, residueOf, Promise}
+use Rattle.reader.specs.declared.Next.{Next}
+use Rattle.reader.specs.declared.Reading.{Reading}
+use Rattle.reader.specs.Calls.{readOf, Answered}
+use Rattle.sarvundole.specs.Reads.{given, digitOf, Reads}
+
+-- a run whose outcome is o
+pub ran : {w : ℕ} {ws : List ℕ} {m g : ℕ} {multiples₀ : List ℕ} {r : Ran} {multiples : List ℕ} {o : Outcome}
+    → r .outcome ≡ o → Promise w ws m g multiples₀ r multiples
+    → Run w ws m g multiples₀ (refusalOf o) (placeOf o) (residueOf o) (r .doublings) (r .additions) (r .cost) multiples
+ran {w} {ws} {m} {g} {multiples₀} {r} {multiples} q p =
+    subst (λ o. Run w ws m g multiples₀ (refusalOf o) (placeOf o) (residueOf o) (r .doublings) (r .additions) (r .cost) multiples) q (p .run)
+
+-- a reading whose next is x
+pub read : {w : ℕ} {s : List ℕ} {k : ℕ} {r : Reading} {x : Next} → r .next ≡ x → Answered w s k r → Reads w s k (r .refusal) (given (readOf x)) (digitOf (readOf x))
+read {w} {s} {k} {r} q a =
+    let shown = subst (λ y. readOf y ≡ readAt (sequence (r .refusal) w s) k) q (a .gives) in
+    record { holds = a .holds; given-is = ap given shown; digit-is = ap digitOf shown }

@@ -1,0 +1,23 @@
+-- What a call of the reader gives, in plain numbers.
+-- Assumes nothing.
+use mathlib.Core.Path.{_≡_}
+use mathlib.Core.List.{List}
+use Prim.Native.Nat.{ℕ}
+use lib.IntN.{ℤ, pos}
+use Rattle.meaning.specs.Reading.{Holds, sequence, Read, digit, done, readAt}
+
+-- 1 where there is a digit, and 0 where the reader is done
+abbrev pub given : Read → ℕ
+given (digit d) = 1
+given done = 0
+
+-- the digit, 0 where the reader is done
+abbrev pub digitOf : Read → ℤ
+digitOf (digit d) = d
+digitOf done = pos 0
+
+-- the number that a reader of w and s holds, and what its call after k others gives
+pub record Reads (w : ℕ) (s : List ℕ) (k r g : ℕ) (d : ℤ) : Type 0 where
+  pub holds : Holds w s r
+  pub given-is : g ≡ given (readAt (sequence r w s) k)
+  pub digit-is : d ≡ digitOf (readAt (sequence r w s) k)

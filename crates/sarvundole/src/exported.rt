@@ -1,0 +1,175 @@
+// The calls for C. A slice is a pointer and a count there, and an answer a struct by value. Each promises what the call that it makes promises.
+ghost use mathlib.Core.Path.{_≡_};
+ghost use Rattle.meaning.specs.Recoding.{Recode};
+ghost use Rattle.meaning.specs.Checking.{checkRules, nonadjacentRules, Check};
+ghost use Rattle.meaning.specs.Taping.{Tape};
+ghost use Rattle.meaning.specs.Running.{Run};
+ghost use Rattle.meaning.specs.Searching.{Search};
+ghost use Rattle.sarvundole.specs.Reads.{Reads};
+use reader::Next;
+use run::Outcome;
+
+// What recode and the checks answer.
+#[repr(C)]
+pub struct Tally {
+    pub refusal: u8,
+    pub place: u16,
+    pub weight: u16,
+    pub top: u16,
+}
+
+#[repr(C)]
+pub struct Taped {
+    pub refusal: u8,
+    pub place: u16,
+    pub words: u16,
+    pub doublings: u16,
+    pub additions: u16,
+}
+
+// The run's outcome in plain fields: the refusal and its place, or the residue.
+#[repr(C)]
+pub struct Ran {
+    pub refusal: u8,
+    pub place: u16,
+    pub residue: u32,
+    pub doublings: u16,
+    pub additions: u16,
+    pub cost: u16,
+}
+
+// `given` is 1 where there is a digit, and 0 where the reader is done.
+#[repr(C)]
+pub struct Reading {
+    pub refusal: u8,
+    pub given: u8,
+    pub digit: i8,
+}
+
+#[repr(C)]
+pub struct Searched {
+    pub refusal: u8,
+    pub weight: u8,
+}
+
+#[no_mangle]
+pub extern "C" fn sarvundole_recode(
+    form: u8,
+    width: u8,
+    scalar: &[u8],
+    digits: &mut [i8],
+    marks: &mut [u64],
+) -> Tally
+    ensures { λ r. ⌜ Recode form width (now (scalar .entry)) (now (digits .entry)) (now (marks .entry)) (r .refusal) (r .place) (r .weight) (r .top) (now (digits .exit)) (now (marks .exit)) ⌝ }
+{
+    let made = recoder::recode(form, width, scalar, digits, marks);
+    Tally {
+        refusal: made.refusal,
+        place: made.place,
+        weight: made.weight,
+        top: made.top,
+    }
+}
+
+#[no_mangle]
+pub extern "C" fn sarvundole_check(width: u8, scalar: &[u8], digits: &[i8]) -> Tally
+    ensures { λ r. ⌜ Check (checkRules width (now (scalar .entry)) (now (digits .entry))) (now (digits .entry)) (r .refusal) (r .place) (r .weight) (r .top) ⌝ }
+{
+    let made = judge::check(width, scalar, digits);
+    Tally {
+        refusal: made.refusal,
+        place: made.place,
+        weight: made.weight,
+        top: made.top,
+    }
+}
+
+#[no_mangle]
+pub extern "C" fn sarvundole_check_nonadjacent(width: u8, scalar: &[u8], digits: &[i8]) -> Tally
+    ensures { λ r. ⌜ Check (nonadjacentRules width (now (scalar .entry)) (now (digits .entry))) (now (digits .entry)) (r .refusal) (r .place) (r .weight) (r .top) ⌝ }
+{
+    let made = judge::check_nonadjacent(width, scalar, digits);
+    Tally {
+        refusal: made.refusal,
+        place: made.place,
+        weight: made.weight,
+        top: made.top,
+    }
+}
+
+#[no_mangle]
+pub extern "C" fn sarvundole_tape(width: u8, digits: &[i8], words: &mut [u16]) -> Taped
+    ensures { λ r. ⌜ Tape width (now (digits .entry)) (now (words .entry)) (r .refusal) (r .place) (r .words) (r .doublings) (r .additions) (now (words .exit)) ⌝ }
+{
+    let made = tape::tape(width, digits, words);
+    Taped {
+        refusal: made.refusal,
+        place: made.place,
+        words: made.words,
+        doublings: made.doublings,
+        additions: made.additions,
+    }
+}
+
+#[no_mangle]
+pub extern "C" fn sarvundole_run(
+    width: u8,
+    tape: &[u16],
+    modulus: u32,
+    base: u32,
+    multiples: &mut [u32],
+) -> Ran
+    ensures { λ r. ⌜ Run width (now (tape .entry)) modulus base (now (multiples .entry)) (r .refusal) (r .place) (r .residue) (r .doublings) (r .additions) (r .cost) (now (multiples .exit)) ⌝ }
+{
+    let made = run::run(width, tape, modulus, base, multiples);
+    let outcome = made.outcome;
+    match outcome {
+        Outcome::Residue(residue) => Ran {
+            refusal: 0,
+            place: 0,
+            residue,
+            doublings: made.doublings,
+            additions: made.additions,
+            cost: made.cost,
+        },
+        Outcome::Refused(refused) => Ran {
+            refusal: refused.number,
+            place: refused.place,
+            residue: 0,
+            doublings: made.doublings,
+            additions: made.additions,
+            cost: made.cost,
+        },
+    }
+}
+
+#[no_mangle]
+pub extern "C" fn sarvundole_read_at(width: u8, scalar: &[u8], calls: u16) -> Reading
+    ensures { λ r. ⌜ Reads width (now (scalar .entry)) calls (r .refusal) (r .given) (r .digit) ⌝ }
+{
+    let made = reader::read_at(width, scalar, calls);
+    let next = made.next;
+    match next {
+        Next::Digit(digit) => Reading {
+            refusal: made.refusal,
+            given: 1,
+            digit,
+        },
+        Next::Done => Reading {
+            refusal: made.refusal,
+            given: 0,
+            digit: 0,
+        },
+    }
+}
+
+#[no_mangle]
+pub extern "C" fn sarvundole_search(number: u32, width: u8) -> Searched
+    ensures { λ r. ⌜ Search number width (r .refusal) (r .weight) ⌝ }
+{
+    let found = search::search(number, width);
+    Searched {
+        refusal: found.refusal,
+        weight: found.weight,
+    }
+}

@@ -1,0 +1,37 @@
+// The library that a user names: every call and every type of this house under one name, and the calls for C in `exported`.
+pub mod exported;
+
+pub use judge::Verdict;
+pub use judge::check;
+pub use judge::check_nonadjacent;
+pub use reader::Next;
+pub use reader::Reader;
+pub use reader::Reading;
+pub use reader::State;
+pub use reader::Taken;
+pub use reader::call;
+pub use reader::moved;
+pub use reader::read_at;
+pub use reader::start;
+pub use recoder::CLOSEST;
+pub use recoder::MOF;
+pub use recoder::Tally;
+pub use recoder::WMOF;
+pub use recoder::WNAF;
+pub use recoder::recode;
+pub use run::Outcome;
+pub use run::Ran;
+pub use run::Refusal;
+pub use run::run;
+pub use scalar::MOST_BYTES;
+pub use search::Searched;
+pub use search::search;
+pub use tape::Move;
+pub use tape::Sign;
+pub use tape::Step;
+pub use tape::Taped;
+pub use tape::decode;
+pub use tape::encode;
+pub use tape::tape;
+pub use width::Known;
+pub use width::Width;

@@ -1,0 +1,136 @@
+/* Sarvundole: recodes a public check number to signed digits, checks digits made elsewhere, makes a step tape of a string and runs
+ * a tape over residues. C99 and C++.
+ *
+ * Scalars come as big-endian bytes, 0 to 66 of them; L bytes have n = 8L bits. A width w is 2 to 8. The digits of width w are 0 and
+ * the odd numbers of absolute value below 2^(w-1). A string has place 0 first in its buffer, place j is worth 2^j, and each place is
+ * a signed byte. A recoded string has exactly n + 1 places, at most 529. A tape has at most 1,057 words.
+ *
+ * Every call takes every input. It answers with `refusal` 0, or with the number of the first rule that the input breaks, tried in
+ * rising order. A refusal has its number, the place where the rule names one and otherwise 0, and 0 in every other field; lent
+ * memory then stays as lent. Places of a buffer beyond those named are never touched.
+ *
+ * What is lent is a pointer and a count of elements. A count may be 0, and its pointer is then never read, so it may be null. What is
+ * lent for writing may not overlap anything else that is lent in the same call. No call keeps a pointer, allocates, or calls back;
+ * calls on separate memory may run at the same time. The steps depend on the digits: only public numbers belong here. */
+#ifndef SARVUNDOLE_H
+#define SARVUNDOLE_H
+
+#include <stddef.h>
+#include <stdint.h>
+
+#ifdef __cplusplus
+extern "C" {
+#endif
+
+/* The four forms. */
+enum sarvundole_form {
+    SARVUNDOLE_MOF = 1,    /* the digit at place j is d_(j-1) - d_j; its width is 2 */
+    SARVUNDOLE_WNAF = 2,   /* any w consecutive places hold at most one nonzero */
+    SARVUNDOLE_WMOF = 3,   /* windows of w places from the top down */
+    SARVUNDOLE_CLOSEST = 4 /* the closest u * 2^i is taken off, on a tie the one of larger absolute value */
+};
+
+/* The refusals. 6 and 16 are never given here: n + 1 places always suffice, and 16 is the line program's. */
+enum sarvundole_refusal {
+    SARVUNDOLE_ACCEPTED = 0,
+    SARVUNDOLE_BAD_FORM = 1,         /* form is not 1..4 */
+    SARVUNDOLE_BAD_WIDTH = 2,        /* width outside 2..8, or not 2 with form 1; in the search, width not 2 or 3 */
+    SARVUNDOLE_LONG_SCALAR = 3,      /* scalar over 66 bytes; in the search, number over 127 */
+    SARVUNDOLE_FEW_PLACES = 4,       /* digit buffer under n + 1 places */
+    SARVUNDOLE_FEW_MARKS = 5,        /* marks buffer under 9 words */
+    SARVUNDOLE_LONG_STRING = 7,      /* digit string over 529 places */
+    SARVUNDOLE_BAD_DIGIT = 8,        /* a digit not of the width; place is the lowest such */
+    SARVUNDOLE_OTHER_WORTH = 9,      /* string not worth the scalar */
+    SARVUNDOLE_NEAR_DIGITS = 10,     /* two nonzero digits fewer than w places apart; place is the lower of the lowest such pair */
+    SARVUNDOLE_SHORT_TAPE = 11,      /* tape buffer too short for all its words */
+    SARVUNDOLE_ZERO_MODULUS = 12,    /* modulus 0 */
+    SARVUNDOLE_LONG_TAPE = 13,       /* tape over 1,057 words */
+    SARVUNDOLE_FEW_MULTIPLES = 14,   /* multiples buffer under 2^(w-2) entries */
+    SARVUNDOLE_BAD_WORD = 15         /* a bad word; place is the first such */
+};
+
+/* The limits, for buffers that always suffice. */
+#define SARVUNDOLE_LEAST_WIDTH 2
+#define SARVUNDOLE_MOST_WIDTH 8
+#define SARVUNDOLE_MOST_BYTES 66
+#define SARVUNDOLE_MOST_PLACES 529
+#define SARVUNDOLE_MARK_WORDS 9
+#define SARVUNDOLE_MOST_WORDS 1057
+#define SARVUNDOLE_MOST_MULTIPLES 64
+
+/* What recode and the checks answer: the weight is the number of nonzero digits, the top 1 + the highest nonzero place, 0 if none. */
+typedef struct sarvundole_tally {
+    uint8_t refusal;
+    uint16_t place;
+    uint16_t weight;
+    uint16_t top;
+} sarvundole_tally;
+
+/* What tape answers: the words written, the doublings (top - 1, or 0) and the additions (weight - 1, or 0; subtracts included). */
+typedef struct sarvundole_taped {
+    uint8_t refusal;
+    uint16_t place;
+    uint16_t words;
+    uint16_t doublings;
+    uint16_t additions;
+} sarvundole_taped;
+
+/* What run answers: the residue reached, the doublings and additions done, and the cost of the multiples, 2^(w-2) - 1 additions. */
+typedef struct sarvundole_ran {
+    uint8_t refusal;
+    uint16_t place;
+    uint32_t residue;
+    uint16_t doublings;
+    uint16_t additions;
+    uint16_t cost;
+} sarvundole_ran;
+
+/* What read_at answers: `given` is 1 and `digit` the digit, or `given` is 0 where the reader is done. */
+typedef struct sarvundole_reading {
+    uint8_t refusal;
+    uint8_t given;
+    int8_t digit;
+} sarvundole_reading;
+
+/* What search answers: the least weight. */
+typedef struct sarvundole_searched {
+    uint8_t refusal;
+    uint8_t weight;
+} sarvundole_searched;
+
+/* Recodes a scalar. Writes its n + 1 digits, and marks nonzero places in nine 64-bit words: bit j mod 64 of word j / 64 is set exactly
+ * when place j is nonzero. Lent: the scalar; for writing, at least n + 1 places and 9 words. Refusals: 1, 2, 3, 4, 5. */
+sarvundole_tally sarvundole_recode(uint8_t form, uint8_t width, const uint8_t *scalar, size_t bytes, int8_t *digits, size_t places,
+                                   uint64_t *marks, size_t words);
+
+/* Says yes exactly when the digits are of the width and the string, of 0 to 529 places, is worth the scalar. Nothing is written.
+ * Lent: the scalar and the string. Refusals: 2, 3, 7, 8, 9. */
+sarvundole_tally sarvundole_check(uint8_t width, const uint8_t *scalar, size_t bytes, const int8_t *digits, size_t places);
+
+/* The same, and no two nonzero digits stand fewer than w places apart. Refusals: 2, 3, 7, 8, 9, 10. */
+sarvundole_tally sarvundole_check_nonadjacent(uint8_t width, const uint8_t *scalar, size_t bytes, const int8_t *digits, size_t places);
+
+/* Turns a string into a step tape. A word is 16 bits: the code in the top four, the entry e in the low twelve, e standing for the odd
+ * multiple 2e + 1. Codes: 0 double (e is 0), 1 load, 2 load negated, 3 add, 4 subtract. The highest nonzero digit gives a load; each
+ * lower place a double, followed by an add or subtract if its digit is nonzero. A zero string gives no words. No word beyond the count
+ * is written. Lent: the string; for writing, room for all the words. Refusals: 2, 7, 8, 11. */
+sarvundole_taped sarvundole_tape(uint8_t width, const int8_t *digits, size_t places, uint16_t *words, size_t room);
+
+/* Runs a tape over residues. All its words are judged before a multiple is stored; then the multiples (2e + 1) * base mod modulus are
+ * stored, 2^(w-2) of them, for an empty tape too. The residue is the least nonnegative one of the tape's value times the base; an empty
+ * tape gives 0. Lent: the tape; for writing, at least 2^(w-2) multiples. Refusals: 2, 12, 13, 14, 15. */
+sarvundole_ran sarvundole_run(uint8_t width, const uint16_t *tape, size_t words, uint32_t modulus, uint32_t base, uint32_t *multiples,
+                              size_t room);
+
+/* Reads wMOF one digit a call, places n down to 0, then done at every later call: this is what the call after `calls` others gives.
+ * Made from refused input, a reader holds the number and is done at once. Lent: the scalar. Refusals: 2, 3. */
+sarvundole_reading sarvundole_read_at(uint8_t width, const uint8_t *scalar, size_t bytes, uint16_t calls);
+
+/* Answers the least weight of any string of nine places that is worth a number up to 127, at width 2 or 3. Refusals: 2, 3. */
+sarvundole_searched sarvundole_search(uint32_t number, uint8_t width);
+
+#ifdef __cplusplus
+}
+#endif
+
+#endif
