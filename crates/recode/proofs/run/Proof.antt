@@ -1,0 +1,119 @@
+-- `recode::run` is safe and ends: the memory keeps its sizes, and the measure is the number of turns that are left. Assumes nothing.
+use mathlib.Core.Path.{_≡_, refl, _∙_}
+use Prim.Native.Nat.{_≤_}
+use native.Mathlib.Omega.{arith}
+use lib.ListN.{length}
+use denote.Ref.{now}
+use Rattle.lines.specs.Streams.{mostKept}
+use Rattle.lines.proofs.Streams.{Sized, sized-start, lent-still}
+use Rattle.recode.proofs.run.Statement.{statement}
+use Rattle.recode.proofs.run.Tie as tie
+
+abbrev Inv-loop : tie.InvT-loop
+Inv-loop input₀ line₀ bytes₀ digits₀ marks₀ out₀ turns₀ kept₀ goes₀ input line bytes digits marks out turns kept goes =
+    Sized line₀ bytes₀ digits₀ marks₀ out₀ line bytes digits marks out × (length input ≡ length input₀) × (kept ≤ mostKept)
+
+abbrev μ-loop : tie.MeasureT-loop
+μ-loop input₀ line₀ bytes₀ digits₀ marks₀ out₀ turns₀ kept₀ goes₀ input line bytes digits marks out turns kept goes =
+    turns
+
+loop-holds : tie.Need-loop-holds Inv-loop μ-loop
+loop-holds c =
+    let a = c .before .before .before .before .before .args in
+    (sized-start (now (a .line)) (now (a .bytes)) (now (a .digits)) (now (a .marks)) (now (a .out)), refl, omega arith)
+
+take-requires : tie.Need-take-requires Inv-loop μ-loop
+take-requires c κs =
+    let l = c .before .before .before .before .before .before .before .before in
+    let s = l .before .before .before .before .before .before in
+    ((l .loop .inv .2, omega (arith, s .pre .0, l .loop .inv .0 .line-length)), lent-still (l .loop .inv .0) (s .pre .1))
+
+sub-turns : tie.Need-sub-turns Inv-loop μ-loop
+sub-turns c = omega (arith, c .before .before .before .before .before .before .before .before .before .before .before .before .before .before .before .before .before .before .before .loop-test .taken)
+
+loop-less : tie.Need-loop-less Inv-loop μ-loop
+loop-less c = omega (arith, c .before .before .before .before .before .before .before .before .before .before .before .before .before .before .before .before .before .before .before .loop-test .taken)
+
+loop-again : tie.Need-loop-again Inv-loop μ-loop
+loop-again c =
+    let w = c .before .before .before .before .before .before .before .before .before .before .before in
+    let i = w .before .before .before .before .before .before .before .before .before .loop .inv in
+    let k = w .take .kept in (
+      record {
+        line-length = k .1 .0 ∙ i .0 .line-length;
+        bytes-length = k .1 .1 .1 .0 ∙ i .0 .bytes-length;
+        digits-length = k .1 .1 .1 .1 .0 ∙ i .0 .digits-length;
+        marks-length = k .1 .1 .1 .1 .1 .0 ∙ i .0 .marks-length;
+        out-length = k .1 .1 .1 .1 .1 .1 .0 ∙ i .0 .out-length;
+      },
+      k .0 ∙ i .1,
+      w .take .ensures,
+    )
+
+same-length : tie.Need-same-length Inv-loop μ-loop
+same-length c = c .before .before .loop .inv .1
+
+same-length-2 : tie.Need-same-length-2 Inv-loop μ-loop
+same-length-2 c = c .before .before .loop .inv .0 .line-length
+
+same-length-3 : tie.Need-same-length-3 Inv-loop μ-loop
+same-length-3 c = c .before .before .loop .inv .0 .bytes-length
+
+same-length-4 : tie.Need-same-length-4 Inv-loop μ-loop
+same-length-4 c = c .before .before .loop .inv .0 .digits-length
+
+same-length-5 : tie.Need-same-length-5 Inv-loop μ-loop
+same-length-5 c = c .before .before .loop .inv .0 .marks-length
+
+same-length-6 : tie.Need-same-length-6 Inv-loop μ-loop
+same-length-6 c = c .before .before .loop .inv .0 .out-length
+
+returns : tie.Need-returns Inv-loop μ-loop
+returns c = tt
+
+same-length-7 : tie.Need-same-length-7 Inv-loop μ-loop
+same-length-7 c = c .before .loop .inv .1
+
+same-length-8 : tie.Need-same-length-8 Inv-loop μ-loop
+same-length-8 c = c .before .loop .inv .0 .line-length
+
+same-length-9 : tie.Need-same-length-9 Inv-loop μ-loop
+same-length-9 c = c .before .loop .inv .0 .bytes-length
+
+same-length-10 : tie.Need-same-length-10 Inv-loop μ-loop
+same-length-10 c = c .before .loop .inv .0 .digits-length
+
+same-length-11 : tie.Need-same-length-11 Inv-loop μ-loop
+same-length-11 c = c .before .loop .inv .0 .marks-length
+
+same-length-12 : tie.Need-same-length-12 Inv-loop μ-loop
+same-length-12 c = c .before .loop .inv .0 .out-length
+
+returns-2 : tie.Need-returns-2 Inv-loop μ-loop
+returns-2 c = tt
+
+pub run-spec : {M : Type 1} → statement M
+run-spec =
+    tie.close
+    (tie.spec
+    Inv-loop
+    μ-loop
+    loop-holds
+    take-requires
+    sub-turns
+    loop-less
+    loop-again
+    same-length
+    same-length-2
+    same-length-3
+    same-length-4
+    same-length-5
+    same-length-6
+    returns
+    same-length-7
+    same-length-8
+    same-length-9
+    same-length-10
+    same-length-11
+    same-length-12
+    returns-2)

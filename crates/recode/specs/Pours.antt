@@ -1,0 +1,12 @@
+-- What answering a piece of the input leaves. Assumes nothing.
+use mathlib.Core.Path.{_≡_}
+use mathlib.Core.Bool.{true}
+use mathlib.Core.List.{List}
+use Prim.Native.Nat.{ℕ, _≤_}
+use Rattle.lines.specs.Streams.{begun, mostKept, Keeps}
+use Rattle.recode.specs.declared.Turn.{Turn}
+
+-- unless a write failed, the whole piece has come: of the line that has not ended in it the first characters are kept, however long the lines in it were
+pub record Pours (piece line₀ : List ℕ) (kept₀ : ℕ) (r : Turn) (line : List ℕ) : Type 0 where
+  pub within : r .kept ≤ mostKept
+  pub keeps : r .goes ≡ true → (p : List ℕ) → Keeps p line₀ kept₀ → Keeps (begun p piece) line (r .kept)
