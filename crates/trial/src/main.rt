@@ -1,0 +1,22 @@
+// The trial program: makes every public call from a line of hexadecimal, and answers with every field and every lent buffer whole.
+// Here is the memory that lines and answers stand in.
+mod answers;
+mod checking;
+mod frames;
+mod hexadecimal;
+mod input;
+mod lent;
+mod print;
+mod reading;
+mod recoding;
+mod running;
+mod searching;
+mod taping;
+
+// Of a line one character more is kept than the longest frame has: a longer line is no frame as well.
+fn main() {
+    let mut line = [0u8; 2 * frames::MOST + 1];
+    let mut frame = [0u8; frames::MOST];
+    let mut out = io::large_buffer();
+    input::run(&mut line, &mut frame, &mut out);
+}

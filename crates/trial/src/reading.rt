@@ -1,0 +1,60 @@
+// Call 06: width 1, calls 2, scalar. It answers refusal 1, then for each call 01 and the digit, or 0000 for done.
+use crate::frames;
+use crate::print;
+use reader::Next;
+ghost use mathlib.Core.Path.{_≡_};
+ghost use Prim.Native.Nat.{_+_, _*_, _≤_};
+ghost use lib.ListN.{length};
+ghost use Rattle.trial.specs.Room.{mostAnswer, Answered};
+
+// The bytes before the scalar, with the call's own.
+const HEAD: usize = 4;
+
+fn put_next(next: Next, at: usize, out: &mut [u8]) -> usize
+    requires { ⌜ at + 4 ≤ length (now out) ⌝ }
+    ensures { λ r. ⌜ r ≡ at + 4 ⌝ }
+{
+    match next {
+        Next::Digit(d) => {
+            let digit_at = print::number(1, 1, at, out);
+            print::digit(d, digit_at, out)
+        }
+        Next::Done => print::number(0, 2, at, out),
+    }
+}
+
+// The calls, and their answers.
+fn made(width: u8, scalar: &[u8], calls: usize, out: &mut [u8]) -> usize
+    requires { ⌜ 2 + 4 * calls ≤ length (now out) ⌝ }
+    ensures { λ r. ⌜ r ≡ 2 + 4 * calls ⌝ }
+{
+    let mut state = reader::start(width, scalar);
+    let mut at = print::number(state.refusal as u64, 1, 0, out);
+    let mut k = 0;
+    while k < calls {
+        let taken = reader::call(scalar, state);
+        state = reader::moved(state, taken);
+        let next = taken.next;
+        at = put_next(next, at, out);
+        k += 1;
+    }
+    at
+}
+
+// The answer to a frame, and where it ends: nothing where the bytes are no such frame.
+pub fn answer(frame: &[u8], out: &mut [u8]) -> usize
+    requires { ⌜ mostAnswer ≤ length (now out) ⌝ }
+    ensures { λ r. ⌜ Answered r ⌝ }
+{
+    if frame.len() < HEAD {
+        return 0;
+    }
+    let calls = frames::two(frame, 2) as usize;
+    if frames::CALLS < calls {
+        return 0;
+    }
+    if frames::BYTES < frame.len() - HEAD {
+        return 0;
+    }
+    made(frame[1], &frame[HEAD..], calls, out)
+}

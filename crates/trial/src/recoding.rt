@@ -1,0 +1,86 @@
+// Call 01: form 1, width 1, places lent 2, mark words lent 1, scalar. It answers refusal 1, place 2, weight 2, top 2, digits, marks.
+use crate::frames;
+use crate::lent;
+use crate::print;
+ghost use mathlib.Core.Path.{_≡_};
+ghost use Prim.Native.Nat.{_+_, _*_, _≤_};
+ghost use lib.ListN.{length};
+ghost use Rattle.trial.specs.Room.{mostAnswer, Answered};
+
+// The bytes before the scalar, with the call's own.
+const HEAD: usize = 6;
+
+fn put_digits(digits: &[i8], at: usize, out: &mut [u8]) -> usize
+    requires { ⌜ at + 2 * length (now digits) ≤ length (now out) ⌝ }
+    ensures { λ r. ⌜ r ≡ at + 2 * length (now (digits .entry)) ⌝ }
+{
+    let mut next = at;
+    let mut i = 0;
+    while i < digits.len() {
+        next = print::digit(digits[i], next, out);
+        i += 1;
+    }
+    next
+}
+
+fn put_marks(marks: &[u64], at: usize, out: &mut [u8]) -> usize
+    requires { ⌜ at + 16 * length (now marks) ≤ length (now out) ⌝ }
+    ensures { λ r. ⌜ r ≡ at + 16 * length (now (marks .entry)) ⌝ }
+{
+    let mut next = at;
+    let mut i = 0;
+    while i < marks.len() {
+        next = print::number(marks[i], 8, next, out);
+        i += 1;
+    }
+    next
+}
+
+// The call, and its answer.
+fn made(
+    form: u8,
+    width: u8,
+    scalar: &[u8],
+    digits: &mut [i8],
+    marks: &mut [u64],
+    out: &mut [u8],
+) -> usize
+    requires { ⌜ 14 + 2 * length (now digits) + 16 * length (now marks) ≤ length (now out) ⌝ }
+    ensures { λ r. ⌜ r ≡ 14 + 2 * length (now (digits .entry)) + 16 * length (now (marks .entry)) ⌝ }
+{
+    let tally = recoder::recode(form, width, scalar, digits, marks);
+    let at = print::fields(tally.refusal, tally.place, tally.weight, tally.top, out);
+    let at = put_digits(digits, at, out);
+    put_marks(marks, at, out)
+}
+
+// The answer to a frame, and where it ends: nothing where the bytes are no such frame.
+pub fn answer(frame: &[u8], out: &mut [u8]) -> usize
+    requires { ⌜ mostAnswer ≤ length (now out) ⌝ }
+    ensures { λ r. ⌜ Answered r ⌝ }
+{
+    if frame.len() < HEAD {
+        return 0;
+    }
+    let places = frames::two(frame, 3) as usize;
+    let words = frame[5] as usize;
+    if frames::PLACES < places {
+        return 0;
+    }
+    if frames::MARK_WORDS < words {
+        return 0;
+    }
+    if frames::BYTES < frame.len() - HEAD {
+        return 0;
+    }
+    let mut digits = lent::digits();
+    let mut marks = lent::marks();
+    made(
+        frame[1],
+        frame[2],
+        &frame[HEAD..],
+        &mut digits[..places],
+        &mut marks[..words],
+        out,
+    )
+}

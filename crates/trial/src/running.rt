@@ -1,0 +1,113 @@
+// Call 05: width 1, multiples lent 2, modulus 4, base 4, tape words. It answers refusal 1, place 2, residue 4, doublings 2, additions 2, cost 2, the
+// multiples lent.
+use crate::frames;
+use crate::lent;
+use crate::print;
+use run::Outcome;
+use run::Ran;
+ghost use mathlib.Core.Path.{_≡_};
+ghost use Prim.Native.Nat.{_+_, _*_, _≤_};
+ghost use lib.ListN.{length};
+ghost use Rattle.trial.specs.Room.{mostAnswer, Answered};
+
+// The bytes before the words, with the call's own.
+const HEAD: usize = 12;
+
+// The first fields, at the front.
+fn put_fields(refusal: u8, place: u16, residue: u32, out: &mut [u8]) -> usize
+    requires { ⌜ 14 ≤ length (now out) ⌝ }
+    ensures { λ r. ⌜ r ≡ 14 ⌝ }
+{
+    let at = print::number(refusal as u64, 1, 0, out);
+    let at = print::number(place as u64, 2, at, out);
+    print::number(residue as u64, 4, at, out)
+}
+
+// An outcome as its fields.
+fn put_outcome(outcome: Outcome, out: &mut [u8]) -> usize
+    requires { ⌜ 14 ≤ length (now out) ⌝ }
+    ensures { λ r. ⌜ r ≡ 14 ⌝ }
+{
+    match outcome {
+        Outcome::Residue(residue) => put_fields(0, 0, residue, out),
+        Outcome::Refused(refusal) => put_fields(refusal.number, refusal.place, 0, out),
+    }
+}
+
+// What a run returns, at the front.
+fn put_ran(ran: Ran, out: &mut [u8]) -> usize
+    requires { ⌜ 26 ≤ length (now out) ⌝ }
+    ensures { λ r. ⌜ r ≡ 26 ⌝ }
+{
+    let outcome = ran.outcome;
+    let at = put_outcome(outcome, out);
+    let at = print::number(ran.doublings as u64, 2, at, out);
+    let at = print::number(ran.additions as u64, 2, at, out);
+    print::number(ran.cost as u64, 2, at, out)
+}
+
+fn put_multiples(multiples: &[u32], at: usize, out: &mut [u8]) -> usize
+    requires { ⌜ at + 8 * length (now multiples) ≤ length (now out) ⌝ }
+    ensures { λ r. ⌜ r ≡ at + 8 * length (now (multiples .entry)) ⌝ }
+{
+    let mut next = at;
+    let mut i = 0;
+    while i < multiples.len() {
+        next = print::number(multiples[i] as u64, 4, next, out);
+        i += 1;
+    }
+    next
+}
+
+// The call, and its answer. The words that are given are put into memory first.
+fn made(
+    width: u8,
+    given: &[u8],
+    tape: &mut [u16],
+    modulus: u32,
+    base: u32,
+    multiples: &mut [u32],
+    out: &mut [u8],
+) -> usize
+    requires { ⌜ length (now given) ≡ 2 * length (now tape) ⌝ }
+    requires { ⌜ 26 + 8 * length (now multiples) ≤ length (now out) ⌝ }
+    ensures { λ r. ⌜ r ≡ 26 + 8 * length (now (multiples .entry)) ⌝ }
+{
+    frames::words(given, tape);
+    let ran = run::run(width, tape, modulus, base, multiples);
+    let at = put_ran(ran, out);
+    put_multiples(multiples, at, out)
+}
+
+// The answer to a frame, and where it ends: nothing where the bytes are no such frame.
+pub fn answer(frame: &[u8], out: &mut [u8]) -> usize
+    requires { ⌜ mostAnswer ≤ length (now out) ⌝ }
+    ensures { λ r. ⌜ Answered r ⌝ }
+{
+    if frame.len() < HEAD {
+        return 0;
+    }
+    let count = frames::two(frame, 2) as usize;
+    if frames::MULTIPLES < count {
+        return 0;
+    }
+    let bytes = frame.len() - HEAD;
+    if bytes % 2 == 1 {
+        return 0;
+    }
+    let given = bytes / 2;
+    if frames::WORDS < given {
+        return 0;
+    }
+    let mut words = lent::words();
+    let mut multiples = lent::multiples();
+    made(
+        frame[1],
+        &frame[HEAD..],
+        &mut words[..given],
+        frames::four(frame, 4),
+        frames::four(frame, 8),
+        &mut multiples[..count],
+        out,
+    )
+}

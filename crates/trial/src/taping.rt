@@ -1,0 +1,70 @@
+// Call 04: width 1, words lent 2, digits. It answers refusal 1, place 2, words 2, doublings 2, additions 2, the words lent.
+use crate::frames;
+use crate::lent;
+use crate::print;
+ghost use mathlib.Core.Path.{_≡_};
+ghost use Prim.Native.Nat.{_+_, _*_, _≤_};
+ghost use lib.ListN.{length};
+ghost use Rattle.trial.specs.Room.{mostAnswer, Answered};
+
+// The bytes before the digits, with the call's own.
+const HEAD: usize = 4;
+
+fn put_words(words: &[u16], at: usize, out: &mut [u8]) -> usize
+    requires { ⌜ at + 4 * length (now words) ≤ length (now out) ⌝ }
+    ensures { λ r. ⌜ r ≡ at + 4 * length (now (words .entry)) ⌝ }
+{
+    let mut next = at;
+    let mut i = 0;
+    while i < words.len() {
+        next = print::number(words[i] as u64, 2, next, out);
+        i += 1;
+    }
+    next
+}
+
+// The call, and its answer. The digits that are given are put into memory first.
+fn made(width: u8, given: &[u8], digits: &mut [i8], words: &mut [u16], out: &mut [u8]) -> usize
+    requires { ⌜ length (now given) ≡ length (now digits) ⌝ }
+    requires { ⌜ 18 + 4 * length (now words) ≤ length (now out) ⌝ }
+    ensures { λ r. ⌜ r ≡ 18 + 4 * length (now (words .entry)) ⌝ }
+{
+    frames::digits(given, digits);
+    let taped = tape::tape(width, digits, words);
+    let at = print::fields(
+        taped.refusal,
+        taped.place,
+        taped.words,
+        taped.doublings,
+        out,
+    );
+    let at = print::number(taped.additions as u64, 2, at, out);
+    put_words(words, at, out)
+}
+
+// The answer to a frame, and where it ends: nothing where the bytes are no such frame.
+pub fn answer(frame: &[u8], out: &mut [u8]) -> usize
+    requires { ⌜ mostAnswer ≤ length (now out) ⌝ }
+    ensures { λ r. ⌜ Answered r ⌝ }
+{
+    if frame.len() < HEAD {
+        return 0;
+    }
+    let count = frames::two(frame, 2) as usize;
+    if frames::WORDS < count {
+        return 0;
+    }
+    let places = frame.len() - HEAD;
+    if frames::PLACES < places {
+        return 0;
+    }
+    let mut digits = lent::digits();
+    let mut words = lent::words();
+    made(
+        frame[1],
+        &frame[HEAD..],
+        &mut digits[..places],
+        &mut words[..count],
+        out,
+    )
+}
