@@ -1,0 +1,692 @@
+"""The lines that the programs recode and trial are run on: document 01's edges, its known strings, the papers' worked
+examples, every small case, refusals two and more at once, malformed lines, and random cases from a fixed seed.
+
+Here are inputs only. What is to be answered comes from second.py; where a paper or document 01 prints an answer, it is
+held against second.py's as the line is made.
+"""
+
+import itertools
+import random
+
+import second
+from second import CLOSEST, LEAST_WIDTH, MOF, MOST_BYTES, MOST_PLACES, MOST_WIDTH, MOST_WORDS, WMOF, WNAF
+
+SEED = 20040815
+WIDTHS = range(LEAST_WIDTH, MOST_WIDTH + 1)
+FORMS_AND_WIDTHS = [(MOF, LEAST_WIDTH)] + [(form, width) for form in (WNAF, WMOF, CLOSEST) for width in WIDTHS]
+
+
+# ---- lines, by what they ask
+def hexadecimal(data):
+    return bytes(data).hex().upper().encode("ascii")
+
+
+def recode_frame(form, width, scalar):
+    return hexadecimal(bytes([form, width, len(scalar)]) + scalar)
+
+
+def recode(form, width, places, marks, scalar):
+    return hexadecimal(bytes([1, form, width]) + places.to_bytes(2, "big") + bytes([marks]) + scalar)
+
+
+def recode_fitting(form, width, scalar):
+    return recode(form, width, 8 * len(scalar) + 1, 9, scalar)
+
+
+def check(width, scalar, digits, call=2):
+    return hexadecimal(bytes([call, width, len(scalar)]) + scalar + second.big_endian(digits, 1))
+
+
+def nonadjacent(width, scalar, digits):
+    return check(width, scalar, digits, call=3)
+
+
+def tape(width, lent, digits):
+    return hexadecimal(bytes([4, width]) + lent.to_bytes(2, "big") + second.big_endian(digits, 1))
+
+
+def run(width, lent, modulus, base, words):
+    numbers = lent.to_bytes(2, "big") + modulus.to_bytes(4, "big") + base.to_bytes(4, "big")
+    return hexadecimal(bytes([5, width]) + numbers + second.big_endian(words, 2))
+
+
+def reader(width, calls, scalar):
+    return hexadecimal(bytes([6, width]) + calls.to_bytes(2, "big") + scalar)
+
+
+def search(width, n):
+    return hexadecimal(bytes([7, width]) + n.to_bytes(4, "big"))
+
+
+# ---- strings that a document prints, highest place first
+KNOWN = [  # document 01, P1 to P10: scalar, width, forms, nonzero digits by place
+    (b"\x0d", 2, [MOF], {4: 1, 2: -1, 1: 1, 0: -1}),
+    (b"\x0d", 2, [WNAF, CLOSEST], {4: 1, 2: -1, 0: 1}),
+    (b"\x0d", 2, [WMOF], {4: 1, 1: -1, 0: -1}),
+    (b"\x2a", 3, [WNAF, WMOF, CLOSEST], {4: 3, 1: -3}),
+    (b"\x01\x5d", 4, [WNAF], {9: 1, 5: -5, 0: -3}),
+    (b"\x01\x5d", 4, [WMOF, CLOSEST], {6: 5, 2: 7, 0: 1}),
+    (b"\xff", 8, [WNAF, WMOF, CLOSEST], {8: 1, 0: -1}),
+    (b"", 2, [MOF, WNAF, WMOF, CLOSEST], {}),
+    (b"\x03", 2, [MOF], {2: 1, 0: -1}),
+]
+
+KNOWN_TAPES = [  # P11, P12: scalar, width, words, modulus, base, residue, multiples
+    (b"\x0d", 2, "1000 0000 0000 4000 0000 0000 3000", 1000, 7, 91, [7]),
+    (b"\x2a", 3, "1001 0000 0000 0000 4001 0000", 10, 9, 8, [9, 7]),
+]
+
+# Worked examples that stand whole in the papers: document, number, width, forms, digits. Document 002's row for 379 from
+# the left is wMOF's: its table takes the smaller candidate at the tie. Rows with lost digits or overlines, which are
+# not worth their number, are left out: 000's table at the end of section 4.2, 001's arrays P and Q1 of example 2 and all
+# of example 4, and 003's 2MOF, 4MOF and 4NAF of section 3.4.
+WORKED = [
+    ("000, definition 2", 14818, 2, [MOF], "0 1 0 0 -1 0 1 0 0 0 -1 0 0 1 -1 0"),
+    ("000, section 4.3", 42, 2, [WNAF], "1 0 1 0 1 0"),
+    ("000, section 4.3", 43, 2, [WNAF], "1 0 -1 0 -1 0 -1"),
+    ("001, example 3", 53, 2, [MOF], "1 0 -1 1 -1 1 -1"),
+    ("002, section 1", 42, 3, [WNAF], "3 0 0 -3 0"),
+    ("002, section 2", 233, 2, [CLOSEST], "1 0 0 0 -1 -1 0 0 1"),
+    ("002, section 2", 5, 3, [CLOSEST], "3 -1"),
+    ("002, section 4.1", 379, 3, [WNAF], "3 0 0 0 -1 0 0 3"),
+    ("002, section 4.2", 379, 3, [WMOF], "3 0 0 0 0 -1 0 -1"),
+    ("document 01's tie rule for it", 379, 3, [CLOSEST], "3 0 0 0 0 0 -3 1"),
+    ("003, section 3.1.1", 729, 2, [WNAF], "1 0 -1 0 0 -1 0 -1 0 0 1"),
+    ("003, section 3.1.2", 729, 5, [WNAF], "1 0 0 0 0 -9 0 0 0 0 -7"),
+    ("003, section 3.2.1", 432, 2, [MOF], "1 0 -1 1 0 -1 0 0 0 0"),
+    (
+        "003, section 3.4",
+        2392158554,
+        2,
+        [MOF],
+        "1 -1 0 0 1 0 0 -1 1 -1 0 1 -1 1 -1 1 -1 1 0 0 -1 0 0 1 -1 1 -1 1 0 -1 1 -1 0",
+    ),
+    ("003, section 3.4", 2392158554, 3, [WMOF], "1 0 0 1 0 0 0 0 -3 0 0 0 3 0 0 -3 1 0 0 -1 0 0 0 0 3 0 -1 0 0 0 -3 0"),
+    (
+        "003, section 3.4",
+        2392158554,
+        2,
+        [WNAF],
+        "1 0 0 1 0 0 -1 0 1 0 1 0 -1 0 -1 0 -1 0 0 -1 0 0 1 0 -1 0 -1 0 -1 0 1 0",
+    ),
+    ("003, section 3.4", 2392158554, 3, [WNAF], "1 0 0 1 0 0 0 -1 0 0 -3 0 0 -3 0 0 3 0 0 -1 0 0 0 1 0 0 3 0 0 0 -3 0"),
+]
+
+# Strings that a paper gives for a number without naming one of the four forms: they are legal and worth it.
+WORTH = [
+    ("001, example 1", 57, 2, "1 0 0 -1 0 0 1"),
+    ("001, example 1", 22, 2, "1 0 -1 0 -1 0"),
+    ("001, example 2", 4846, 2, "0 1 0 0 1 1 0 0 -1 1 0 0 -1 0"),
+    ("001, example 2", 6699, 2, "0 1 1 0 1 0 0 1 0 -1 -1 0 1 1"),
+    ("001, example 2", 4846, 2, "0 1 0 0 1 1 0 0 0 -1 0 0 -1 0"),
+    ("002, section 2", 5, 3, "1 0 1"),
+    ("002, section 4.1", 379, 4, "0 0 5 0 0 7 0 0 3"),
+    ("002, section 4.2", 379, 3, "0 0 3 0 0 0 0 -1 0 -1"),
+]
+
+# 000's table 3, width 3: s, u, k. The paper leaves out the u of s = 8, which is -1.
+PRINTED_WINDOWS = [(4, 1, 1), (5, 3, 0), (6, 3, 0), (7, 1, 2), (8, -1, 2), (9, -3, 0), (10, -3, 0), (11, -1, 1)]
+
+
+def from_top(text):
+    """A printed string, highest place first, as digits from place 0."""
+    return [int(d) for d in text.split()][::-1]
+
+
+def shortest(n):
+    """A number in as few bytes as it needs."""
+    return n.to_bytes((n.bit_length() + 7) // 8, "big")
+
+
+def printed_strings():
+    """Scalar, width, form, digits of everything printed, held against second.py."""
+    for scalar, width, forms, places in KNOWN:
+        digits = [places.get(j, 0) for j in range(8 * len(scalar) + 1)]
+        for form in forms:
+            yield scalar, width, form, digits
+    for _, n, width, forms, text in WORKED:
+        scalar = shortest(n)
+        digits = from_top(text)
+        digits += [0] * (8 * len(scalar) + 1 - len(digits))
+        for form in forms:
+            yield scalar, width, form, digits
+
+
+def check_printed():
+    for scalar, width, form, digits in printed_strings():
+        assert second.form_digits(form, width, scalar) == digits
+    for _, n, width, text in WORTH:
+        assert second.check(width, shortest(n), from_top(text))[0] == 0
+    for scalar, width, text, modulus, base, residue, multiples in KNOWN_TAPES:
+        words = [int(x, 16) for x in text.split()]
+        assert second.tape_of(second.form_digits(WNAF, width, scalar)) == words
+        (_, _, reached, *_), stored = second.run(width, words, modulus, base, [0] * len(multiples))
+        assert (reached, stored) == (residue, multiples)
+    for s, u, k in PRINTED_WINDOWS:
+        assert second.odd_part(second.window(3, s)) == (u, k)
+    assert second.recode_answer(b"0202010D") == b"00000300050100FF000100000000"
+    assert second.recode_answer(b"0209010D") == b"02"
+
+
+# ---- scalars
+def scalar_like(rng, length):
+    """A scalar of one of several kinds: any bytes, long runs of equal bits, one byte over and over, one bit, zeros in front."""
+    kind = rng.randrange(6)
+    if length == 0:
+        return b""
+    if kind == 0:
+        return bytes([rng.choice([0x00, 0x01, 0x33, 0x55, 0x5A, 0x80, 0xAA, 0xCC, 0xFE, 0xFF])] * length)
+    if kind == 1:
+        return (1 << rng.randrange(8 * length)).to_bytes(length, "big")
+    if kind == 2:
+        n, value = 0, rng.randrange(2)
+        while n < 8 * length:
+            step = rng.randint(1, 14)
+            value = (value << step) | (rng.choice([0, 2**step - 1]))
+            n += step
+        return (value % 256**length).to_bytes(length, "big")
+    if kind == 3:
+        front = rng.randrange(length + 1)
+        return bytes(front) + rng.randbytes(length - front)
+    return rng.randbytes(length)
+
+
+def some_length(rng):
+    """Mostly short, now and then up to the longest, seldom too long."""
+    return rng.choice([rng.randint(0, most) for most in (4, 9, 16, 24, 69)])
+
+
+def some_form(rng):
+    """A form and a width that go together."""
+    return rng.choice(FORMS_AND_WIDTHS)
+
+
+# ---- malformed lines of either program
+def spoiled(line):
+    """A good line damaged in every way that a character can be."""
+    yield line[:-1]
+    yield line + b"0"
+    for c in b"\r\0 Gg/:@`xZ\t-+\x7f\x80\xb5\xc3\xff":
+        for place in (0, len(line) // 2, len(line) - 1):
+            yield line[:place] + bytes([c]) + line[place + 1 :]
+    yield line + b"\r"
+    yield b" " + line
+    yield line + b" "
+    yield b"0x" + line
+    yield line[::-1] + b"\xc3\xa9"
+
+
+def any_spoiled(rng, line):
+    return rng.choice(list(spoiled(line)))
+
+
+def any_case(rng, line):
+    """The same line with letters in either case."""
+    return bytes(rng.choice([c, *bytes([c]).lower()]) for c in line)
+
+
+# ---- the recode program
+def recode_edges():
+    yield b"0202010D"
+    yield b"0209010D"
+    for scalar, width, form, _ in printed_strings():
+        yield recode_frame(form, width, scalar)
+    for form, width in FORMS_AND_WIDTHS:
+        for length in (0, 65, 66, 67, 69):
+            yield recode_frame(form, width, b"\xff" * length)
+        yield recode_frame(form, width, bytes(3) + b"\x01\x5d")
+        yield recode_frame(form, width, bytes(66))
+    for form in range(256):
+        yield recode_frame(form, 2, b"\x0d")
+    for width in range(256):
+        yield recode_frame(WNAF, width, b"\x0d")
+        yield recode_frame(MOF, width, b"\x0d")
+    for form, width, length in itertools.product((0, 1, 2, 5, 255), (0, 1, 2, 3, 8, 9), (1, 66, 67, 69)):
+        yield recode_frame(form, width, b"\x80" * length)
+
+
+def recode_every_byte():
+    for form, width in FORMS_AND_WIDTHS:
+        for n in range(256):
+            yield recode_frame(form, width, bytes([n]))
+
+
+def recode_malformed():
+    yield b""
+    yield from spoiled(b"0202010D")
+    yield from spoiled(recode_frame(9, 9, b"\xff"))
+    for short in (b"0", b"02", b"020", b"0202", b"02020", b"020201", b"090901"):
+        yield short
+    for stated in (0, 1, 3, 66, 69, 70, 255):
+        yield b"0203%02X1234" % stated
+    for length in (66, 67, 69, 70, 71, 72, 73, 128, 255):
+        yield recode_frame(WNAF, 3, b"\x5a" * length)
+    whole = recode_frame(WNAF, 3, b"\x5a" * 69)
+    yield whole + b"0"
+    yield whole + b"00"
+    yield b"G" * 144
+    yield b"0" * 145
+    yield b"0" * 4096
+    yield b"G" * 10001
+    yield b"0202010D\r"
+    yield b"0202010d"
+    yield b"02020aabcdefABCDEFabcd"
+    yield b"04080AabCDefABcdEFabCD"
+
+
+def some_recode_line(rng):
+    """A line for the recode program, mostly good."""
+    form, width = some_form(rng)
+    line = recode_frame(form, width, scalar_like(rng, some_length(rng)))
+    kind = rng.randrange(20)
+    if kind == 0:
+        return any_spoiled(rng, line)
+    if kind == 1:
+        return line[: rng.randrange(len(line))]
+    if kind == 2:
+        return recode_frame(rng.randrange(6), rng.randrange(11), scalar_like(rng, some_length(rng)))
+    if kind <= 5:
+        return any_case(rng, line)
+    return line
+
+
+def recode_input():
+    """The stored standard input of recode; its last line has no line feed."""
+    check_printed()
+    rng = random.Random(SEED)
+    lines = [*recode_edges(), *recode_every_byte(), *recode_malformed()]
+    lines += [some_recode_line(rng) for _ in range(2500)]
+    lines += [recode_frame(CLOSEST, 5, b"\x12\x34\x56")]
+    return b"\n".join(lines)
+
+
+# ---- the trial program: refusals two and more at once
+def subsets(numbers):
+    return itertools.chain.from_iterable(itertools.combinations(numbers, k) for k in range(len(numbers) + 1))
+
+
+def recode_faults():
+    for faults in subsets((1, 2, 3, 4, 5)):
+        length = 67 if 3 in faults else 2
+        places = 8 * length + (0 if 4 in faults else 1)
+        marks = 8 if 5 in faults else 9
+        scalar = bytes(range(1, length + 1))
+        for form in (0, 5) if 1 in faults else (MOF, WMOF):
+            width = (3 if form == MOF else 9) if 2 in faults else 2
+            yield recode(form, width, places, marks, scalar)
+
+
+def check_faults():
+    for faults in subsets((2, 3, 7, 8, 9, 10)):
+        scalar = b"\x2b" if 9 in faults else b"\x2a"
+        digits = [0, -3, 0, 0, 3]
+        if 8 in faults:
+            digits[2:4] = [4, -2]
+        if 10 in faults:
+            digits[4:] = [1, 1]
+        if 7 in faults:
+            digits += [0] * (MOST_PLACES + 1 - len(digits))
+        if 3 in faults:
+            scalar = bytes(MOST_BYTES) + scalar
+        width = 9 if 2 in faults else 3
+        yield check(width, scalar, digits)
+        yield nonadjacent(width, scalar, digits)
+
+
+def tape_faults():
+    for faults in subsets((2, 7, 8, 11)):
+        digits = [0, -3, 0, 4 if 8 in faults else 0, 3]
+        if 7 in faults:
+            digits += [0] * (MOST_PLACES + 1 - len(digits))
+        room = len(second.tape_of(digits)) - (1 if 11 in faults else 0)
+        yield tape(1 if 2 in faults else 3, room, digits)
+
+
+def run_faults():
+    for faults in subsets((2, 12, 13, 14, 15)):
+        words = [0x1001, 0x0000, 0x0000, 0x5000 if 15 in faults else 0x0000, 0x4001, 0x0000]
+        if 13 in faults:
+            words += [0x0000] * (MOST_WORDS + 1 - len(words))
+        width = (9 if 14 in faults else 1) if 2 in faults else 3
+        room = (2 if width == 3 else 80) - (1 if 14 in faults else 0)
+        yield run(width, room, 0 if 12 in faults else 10, 9, words)
+
+
+def small_faults():
+    for width, scalar in itertools.product((0, 1, 2, 8, 9, 255), (b"", b"\x9d", bytes(66), bytes(67))):
+        yield reader(width, 3, scalar)
+    for width, n in itertools.product((0, 1, 2, 3, 4, 8, 255), (0, 127, 128, 255, 256, 65535, 2**31, 2**32 - 1)):
+        yield search(width, n)
+
+
+# ---- the trial program: edges
+def trial_recode_edges():
+    for scalar, width, form, _ in printed_strings():
+        yield recode_fitting(form, width, scalar)
+    for form, width in FORMS_AND_WIDTHS:
+        for length in (0, 1, 8, 66):
+            yield recode_fitting(form, width, b"\xb7" * length)
+        yield recode(form, width, 600, 12, b"\x00\x00\x9d")
+    for length in (0, 1, 66, 67, 80):
+        for spare in (-1, 0, 1):
+            if 0 <= 8 * length + 1 + spare <= 600:
+                yield recode(WMOF, 4, 8 * length + 1 + spare, 9, b"\xd3" * length)
+    for length in (67, 80):
+        yield recode(WMOF, 4, 600, 9, b"\xd3" * length)
+    for marks in range(13):
+        yield recode(WNAF, 2, 25, marks, b"\x01\x02\x03")
+    for width in (0, 1, 2, 3, 7, 8, 9, 10, 255):
+        for form in (0, 1, 2, 3, 4, 5, 255):
+            yield recode(form, width, 9, 9, b"\xc5")
+    for places in (0, 1, 2):
+        yield recode(WNAF, 3, places, 9, b"")
+
+
+def on_places(places, digits):
+    return digits + [0] * (places - len(digits))
+
+
+def check_edges():
+    for scalar, width, form, digits in printed_strings():
+        yield check(width, scalar, digits)
+        yield nonadjacent(width, scalar, digits)
+        yield check(width, scalar, digits[: second.top(digits)])
+    for _, n, width, text in WORTH:
+        yield check(width, shortest(n), from_top(text))
+        yield nonadjacent(width, shortest(n), from_top(text))
+    for call in (check, nonadjacent):
+        for scalar in (b"", b"\x00", b"\x01", bytes(66), bytes(65) + b"\x01", bytes(67), bytes(80)):
+            yield call(2, scalar, [])
+            yield call(2, scalar, [0])
+            yield call(2, scalar, [1])
+            yield call(2, scalar, [-1])
+        for width in (0, 1, 2, 3, 4, 8, 9, 255):
+            yield call(width, b"\x04", [4])
+            yield call(width, b"\x04", [0, 0, 1])
+            yield call(width, b"\x05", [5])
+        for places in (528, 529, 530, 600):
+            yield call(2, b"\x01", on_places(places, [1]))
+            yield call(2, b"\x01", on_places(places, [-1, 1]))
+            yield call(2, b"\x01", on_places(places - 1, [1]) + [1])
+            yield call(2, b"\x01", on_places(places - 1, [1]) + [2])
+        all_ones = b"\xff" * 66
+        yield call(2, all_ones, [-1] + [0] * 527 + [1])
+        yield call(2, all_ones, [1] * 528)
+        yield call(8, all_ones, [127] * 529)
+        yield call(8, all_ones, [-127] * 529)
+        yield call(8, all_ones, [-1] + [0] * 527 + [127])
+
+
+def check_every_digit():
+    """Every byte as the only digit, at every width, against its absolute value."""
+    for width in (1, *WIDTHS, 9):
+        for d in range(-128, 128):
+            yield check(width, bytes([abs(d)]), [d])
+
+
+def check_far_off():
+    """Worth off by a machine word or by its negative, above every scalar, and below 0."""
+    for k in (8, 16, 31, 32, 33, 63, 64, 65, 127, 128, 256, 511, 512, 520, 528):
+        for n in (0, 1, 13, 2**63 + 5):
+            scalar = n.to_bytes(8, "big")
+            digits = on_places(529, second.wnaf(n, 64, 3))
+            for d in (1, -1):
+                if digits[k] == 0:
+                    yield check(3, scalar, digits[:k] + [d] + digits[k + 1 :])
+    for n in (1, 13, 255, 2**64 - 1, 2**64, 2**127 - 3):
+        scalar = n.to_bytes(16, "big")
+        digits = second.wnaf(n, 128, 4)
+        yield check(4, scalar, digits)
+        yield check(4, scalar, [-d for d in digits])
+        yield check(4, (2**64 - n % 2**64).to_bytes(16, "big"), [-d for d in digits])
+
+
+def tape_edges():
+    longest = [1, -1] * 264 + [1]
+    for lent in (0, 1, 1056, 1057, 1058, 1100):
+        yield tape(2, lent, longest)
+        yield tape(8, lent, [0] * 529)
+    yield tape(8, 1100, [127, -127] * 264 + [-127])
+    yield tape(2, 1100, longest + [0])
+    yield tape(2, 1100, longest + [2])
+    yield tape(2, 1100, [1] * 600)
+    for lent in (0, 1):
+        for digits in ([], [0], [0] * 529, [1], [-1], [0, 1]):
+            yield tape(2, lent, digits)
+    for scalar, width, _, digits in printed_strings():
+        need = len(second.tape_of(digits))
+        for lent in {max(need - 1, 0), need, need + 2}:
+            yield tape(width, lent, digits)
+            yield tape(width, lent, [-d for d in digits])
+    for width in (0, 1, *WIDTHS, 9, 255):
+        yield tape(width, 4, [3, 1])
+        yield tape(width, 4, [4])
+        yield tape(width, 4, [1, 0, 127])
+        yield tape(width, 4, [-127, 0, 2, 2])
+        yield tape(width, 4, [-128])
+
+
+def run_edges():
+    for _, width, text, modulus, base, _, multiples in KNOWN_TAPES:
+        words = [int(x, 16) for x in text.split()]
+        for lent in (len(multiples) - 1, len(multiples), len(multiples) + 3):
+            yield run(width, lent, modulus, base, words)
+    most = 2**32 - 1
+    for modulus, base in itertools.product((0, 1, 2, 3, 10, 2**31, most - 1, most), (0, 1, 9, 11, 2**31, most - 1, most)):
+        yield run(3, 2, modulus, base, [0x1001, 0, 0, 0, 0x4001, 0])
+        yield run(4, 4, modulus, base, [])
+        yield run(3, 2, modulus, base, [0x2001, 0, 0x3000, 0x3001, 0x4000])
+    for count in (1056, 1057, 1058, 1100):
+        yield run(2, 1, 1000003, 5, [0x1000] + [0x0000] * (count - 1))
+        yield run(8, 64, most, most, [0x203F] + [0x303F, 0x0000] * ((count - 1) // 2) + [0x403F] * ((count - 1) % 2))
+    for width in (0, 1, *WIDTHS, 9, 255):
+        need = 2 ** max(width - 2, 0)
+        for lent in sorted({0, min(need - 1, 80), min(need, 80), 80}):
+            yield run(width, lent, 97, 5, [0x1000, 0x0000, 0x3000])
+
+
+def run_every_word():
+    """Every code with the entries about a width's limit, as the first word, the second and the last."""
+    for width in (2, 3, 5):
+        limit = 2 ** (width - 2)
+        for code, entry in itertools.product(range(16), sorted({0, 1, limit - 1, limit, limit + 1, 2047, 2048, 4095})):
+            x = code << 12 | entry
+            yield run(width, limit, 1009, 123, [x])
+            yield run(width, limit, 1009, 123, [0x1000, x, 0x0000])
+            yield run(width, limit, 1009, 123, [0x2000, 0x0000, 0x3000, x])
+
+
+def reader_edges():
+    for n, width in itertools.product(range(256), WIDTHS):
+        yield reader(width, 10, bytes([n]))
+    for width in WIDTHS:
+        for scalar in (b"", b"\x00", b"\x00\x0d", b"\xff\xff", b"\x80\x00\x01"):
+            for calls in (0, 1, 8 * len(scalar), 8 * len(scalar) + 1, 8 * len(scalar) + 4):
+                yield reader(width, calls, scalar)
+        yield reader(width, 531, b"\x6d" * 66)
+    yield reader(2, 700, b"\xff" * 66)
+    yield reader(2, 700, b"\xff" * 67)
+    yield reader(9, 700, b"\xff" * 80)
+
+
+def cross_check():
+    """The search beside the recoders, whose weights agree."""
+    for n, width in itertools.product(range(128), (2, 3)):
+        scalar = bytes([n])
+        yield search(width, n)
+        for form in (WNAF, WMOF, CLOSEST):
+            yield recode_fitting(form, width, scalar)
+            (_, _, weighs, _), _, _ = second.recode(form, width, scalar, [0] * 9, [0] * 9)
+            assert (0, weighs) == second.search(n, width)
+
+
+def trial_malformed():
+    good = [
+        recode_fitting(WNAF, 3, b"\x2a"),
+        check(3, b"\x2a", [0, -3, 0, 0, 3]),
+        nonadjacent(3, b"\x2a", [0, -3, 0, 0, 3]),
+        tape(3, 7, [0, -3, 0, 0, 3]),
+        run(3, 3, 10, 9, [0x1001, 0, 0x3000]),
+        reader(3, 4, b"\x2a"),
+        search(3, 42),
+    ]
+    for line in good:
+        yield line
+        yield line.lower()
+        yield from spoiled(line)
+        yield from (line[: 2 * k] for k in range(len(line) // 2))
+        yield line + b"00"
+        yield line + b"1000"
+    for call in (0, 8, 9, 16, 127, 128, 255):
+        yield b"%02X" % call + good[0][2:]
+        yield b"%02X" % call
+    yield from at_the_limits()
+
+
+def at_the_limits():
+    """As much as the program has, and one more."""
+    for more in (0, 1):
+        yield recode(WNAF, 3, 600 + more, 9, b"\x2a")
+        yield recode(WNAF, 3, 9, 12 + more, b"\x2a")
+        yield recode(WNAF, 3, 9, 9, bytes(80 + more))
+        yield check(2, b"\x01", [1] * (600 + more))
+        yield check(2, bytes(80 + more), [1])
+        yield hexadecimal(bytes([3, 2, 5, 0, 0, 0, 1, 0][: 8 - more]))
+        yield tape(2, 1100 + more, [1])
+        yield tape(2, 5, [1] * (600 + more))
+        yield run(2, 80 + more, 7, 3, [0x1000])
+        yield run(2, 1, 7, 3, [0x1000] * (1100 + more))
+        yield reader(2, 700 + more, b"\x01")
+        yield reader(2, 1, bytes(80 + more))
+    yield recode(WNAF, 3, 65535, 9, b"\x2a")
+    yield recode(WNAF, 3, 9, 255, b"\x2a")
+    yield hexadecimal(bytes([2, 2, 255, 1]))
+    yield tape(2, 65535, [1])
+    yield run(2, 65535, 7, 3, [])
+    yield reader(2, 65535, b"\x01")
+    yield run(2, 1, 7, 3, [0x1000] * 1100) + b"0"
+    yield run(2, 1, 7, 3, [0x1000] * 1100) + b"00"
+    yield run(2, 1, 7, 3, [0x1000] * 4000)
+
+
+# ---- the trial program: random lines
+def some_digits(rng, width, places):
+    """Digits of the set, thinly or thickly."""
+    allowed = [d for d in second.digit_set(width) if d != 0]
+    share = rng.choice([0.1, 0.4, 1.0])
+    return [rng.choice(allowed) if rng.random() < share else 0 for _ in range(places)]
+
+
+def any_recode(rng):
+    form, width = some_form(rng)
+    scalar = scalar_like(rng, some_length(rng))
+    places = 8 * len(scalar) + 1 + rng.choice([0, 0, 0, 0, 1, 5, -1])
+    return recode(form, width, min(places, 600), rng.choice([9, 9, 9, 9, 10, 8]), scalar)
+
+
+def any_check(rng):
+    """A string of some form or of any digits, often worth its scalar, now and then damaged."""
+    width = rng.choice(WIDTHS)
+    call = rng.choice([check, nonadjacent])
+    if rng.random() < 0.3:
+        digits = some_digits(rng, width, rng.randrange(40))
+        n = abs(second.worth(digits))
+        digits = [-d for d in digits] if second.worth(digits) < 0 and rng.random() < 0.9 else digits
+        scalar = bytes(rng.randrange(3)) + shortest(n)
+    else:
+        scalar = scalar_like(rng, min(some_length(rng), 66))
+        digits = second.form_digits(rng.choice([WNAF, WMOF, CLOSEST]), width, scalar)
+    kind = rng.randrange(8)
+    if kind == 0 and digits:
+        digits[rng.randrange(len(digits))] = rng.randint(-128, 127)
+    elif kind == 1:
+        digits = digits[: rng.randrange(len(digits) + 1)]
+    elif kind == 2:
+        width = rng.choice(WIDTHS)
+    elif kind == 3:
+        digits = on_places(min(len(digits) + rng.randrange(30), MOST_PLACES), digits)
+    elif kind == 4 and len(scalar) > 0:
+        n = second.number(scalar) ^ 1 << rng.randrange(8 * len(scalar))
+        scalar = n.to_bytes(len(scalar), "big")
+    return call(width, scalar, digits)
+
+
+def any_tape(rng):
+    width = rng.choice(WIDTHS)
+    digits = some_digits(rng, width, rng.choice([rng.randrange(12), rng.randrange(60), rng.randrange(200)]))
+    if rng.random() < 0.1 and digits:
+        digits[rng.randrange(len(digits))] = rng.randint(-128, 127)
+    need = len(second.tape_of(digits))
+    return tape(width, max(need + rng.choice([0, 0, 1, 3, -1]), 0), digits)
+
+
+def some_words(rng, width):
+    """A tape of a string, or good words in any order after a load, now and then with a bad one."""
+    if rng.random() < 0.4:
+        words = second.tape_of(some_digits(rng, width, rng.randrange(60)))
+    else:
+        words = [rng.choice([1, 2]) << 12 | rng.randrange(second.entries(width))]
+        for _ in range(rng.randrange(60)):
+            add, subtract = (code << 12 | rng.randrange(second.entries(width)) for code in (second.ADD, second.SUBTRACT))
+            words.append(rng.choice([0, add, subtract]))
+    if rng.random() < 0.15 and words:
+        words[rng.randrange(len(words))] = rng.choice([rng.randrange(65536), 0x1000, 0x0001, 0x5000, 0x3040])
+    return words
+
+
+def any_run(rng):
+    width = rng.choice(WIDTHS)
+    bits = rng.choice([1, 4, 8, 16, 31, 32])
+    modulus, base = rng.randrange(2**bits), rng.randrange(2 ** rng.choice([bits, 32]))
+    lent = second.entries(width) + rng.choice([0, 0, 0, 2, -1])
+    return run(width, lent, modulus, base, some_words(rng, width))
+
+
+def any_reader(rng):
+    scalar = scalar_like(rng, min(some_length(rng), 67))
+    return reader(rng.choice(WIDTHS), max(8 * len(scalar) + rng.choice([0, 1, 2, 4]), 0), scalar)
+
+
+def any_search(rng):
+    number = rng.choice([rng.randrange(most) for most in (128, 128, 2**32)])
+    return search(rng.choice([1, 2, 2, 3, 3, 4]), number)
+
+
+def some_trial_line(rng):
+    """A line for the trial program, mostly good."""
+    line = rng.choice([any_recode, any_check, any_check, any_tape, any_run, any_reader, any_search])(rng)
+    kind = rng.randrange(40)
+    if kind == 0:
+        return any_spoiled(rng, line)
+    if kind == 1:
+        return line[: rng.randrange(len(line))]
+    if kind == 2:
+        return hexadecimal([rng.randrange(9)] + list(rng.randbytes(rng.randrange(40))))
+    if kind <= 5:
+        return any_case(rng, line)
+    return line
+
+
+def trial_input():
+    """The stored standard input of trial; its last line has no line feed."""
+    rng = random.Random(SEED + 1)
+    lines = [
+        *trial_recode_edges(),
+        *check_edges(),
+        *check_every_digit(),
+        *check_far_off(),
+        *tape_edges(),
+        *run_edges(),
+        *run_every_word(),
+        *reader_edges(),
+        *cross_check(),
+        *recode_faults(),
+        *check_faults(),
+        *tape_faults(),
+        *run_faults(),
+        *small_faults(),
+        *trial_malformed(),
+    ]
+    lines += [some_trial_line(rng) for _ in range(3500)]
+    lines += [search(3, 11)]
+    return b"\n".join(lines)

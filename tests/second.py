@@ -1,0 +1,613 @@
+#!/usr/bin/env python3
+"""The independent second program: every call of document 01, worked out from its definitions alone.
+
+Nothing here is taken from the library. Numbers are Python's integers. MOF comes from bits, wNAF from signed
+residues, wMOF from the document's windows, the closest form from trying candidates, worth from summing, the search
+from trying every digit. The functions are short and slow; that they and the library agree is the point.
+
+    python3 tests/second.py write    writes stdin and stdout of the programs recode and trial
+    python3 tests/second.py check    makes them again and says where what is stored differs (exit 1)
+
+Both first hold the definitions against each other (`own_checks`). The lines themselves are made in cases.py.
+
+The trial program
+-----------------
+It makes every public call from a line of hexadecimal pairs, in either case, and answers each line with one line of
+capitals: every field, then every lent buffer whole. Numbers of more than one byte have their high byte first.
+
+    call              then                                                  answers
+    01 recode         form 1, width 1, places lent 2, mark words lent 1,    refusal 1, place 2, weight 2, top 2, digits,
+                      scalar                                                marks
+    02 check          width 1, scalar length 1, scalar, digits              refusal 1, place 2, weight 2, top 2
+    03 nonadjacent    as 02                                                 as 02
+    04 tape           width 1, words lent 2, digits                         refusal 1, place 2, words 2, doublings 2,
+                                                                            additions 2, the words lent
+    05 run            width 1, multiples lent 2, modulus 4, base 4, tape    refusal 1, place 2, residue 4, doublings 2,
+                                                                            additions 2, cost 2, the multiples lent
+    06 reader         width 1, calls 2, scalar                              refusal 1, then for each call 01 and the
+                                                                            digit, or 0000 for done
+    07 search         width 1, number 4                                     refusal 1, weight 1
+
+A digit is one byte in two's complement, a mark word eight bytes, a tape word two, a multiple four. Before the call
+every lent digit is 5A, mark word A5A5A5A5A5A5A5A5, tape word EEEE, multiple DEADBEEF. What has no stated length runs
+to the end of the line. A line ends at a line feed; a last line without one counts if not empty.
+
+FF answers a line that is no such frame: empty, of odd length, with another character, of another call, without a
+part of a fixed field or of the stated scalar, with half a tape word at its end, or with anything after a search. FF
+also answers a line that asks for more than the program has: over 600 digits or places, 12 mark words, 1,100 tape
+words (given or lent), 80 multiples, 80 scalar bytes, 700 reader calls. So the longest frame is a run's with 1,100
+words: 2,212 bytes, 4,424 characters, and FF answers every longer line.
+"""
+
+import functools
+import os
+import sys
+
+sys.dont_write_bytecode = True  # the tests leave no folder of their own
+
+# ---- limits
+LEAST_WIDTH, MOST_WIDTH = 2, 8
+MOST_BYTES, MOST_PLACES, MOST_WORDS = 66, 529, 1057
+MARK_WORDS, MARK_BITS = 9, 64
+SEARCH_PLACES, SEARCH_MOST = 9, 127
+MOST_CHARACTERS = 144
+FORMS = MOF, WNAF, WMOF, CLOSEST = 1, 2, 3, 4
+
+
+# ---- scalars and digits
+def number(scalar):
+    """What big-endian bytes mean."""
+    return int.from_bytes(scalar, "big")
+
+
+def bit(n, j):
+    """d_j, which is 0 for every j outside the number."""
+    return n >> j & 1 if j >= 0 else 0
+
+
+def digit_set(width):
+    """D_w: 0 and the odd numbers of absolute value below 2^(w-1)."""
+    half = 2 ** (width - 1)
+    return [d for d in range(1 - half, half) if d == 0 or d % 2 == 1]
+
+
+def worth(digits):
+    return sum(d * 2**j for j, d in enumerate(digits))
+
+
+def weight(digits):
+    return sum(1 for d in digits if d != 0)
+
+
+def top(digits):
+    return max((j + 1 for j, d in enumerate(digits) if d != 0), default=0)
+
+
+# ---- the four forms, on n + 1 places
+def mof(n, bits):
+    """The digit at place j is d_(j-1) - d_j."""
+    return [bit(n, j - 1) - bit(n, j) for j in range(bits + 1)]
+
+
+def signed_residue(n, modulus):
+    """The residue above -modulus / 2 and at most modulus / 2."""
+    r = n % modulus
+    return r - modulus if 2 * r > modulus else r
+
+
+def wnaf(n, bits, width):
+    """At an odd remaining number the digit is its signed residue modulo 2^w."""
+    digits = []
+    for _ in range(bits + 1):
+        d = signed_residue(n, 2**width) if n % 2 == 1 else 0
+        digits.append(d)
+        n = (n - d) // 2
+    assert n == 0
+    return digits
+
+
+def odd_part(v):
+    """u and k of v = u * 2^k with u odd."""
+    k = 0
+    while v % 2 == 0:
+        v //= 2
+        k += 1
+    return v, k
+
+
+def window(width, s):
+    """What w + 1 bits, read as the number s, are worth: half of s rounded up, less 2^w where the leading bit is 1."""
+    half_up = -(-s // 2)
+    return half_up - 2**width if bit(s, width) == 1 else half_up
+
+
+def wmof(n, bits, width):
+    """From place n down: 0 where d_i = d_(i-1), else a window of w places with one digit in it."""
+    digits = [0] * (bits + 1)
+    i = bits
+    while i >= 0:
+        if bit(n, i) == bit(n, i - 1):
+            i -= 1
+        else:
+            s = sum(bit(n, i - j) * 2 ** (width - j) for j in range(width + 1))
+            u, k = odd_part(window(width, s))
+            digits[i - width + 1 + k] = u
+            i -= width
+    return digits
+
+
+def nearest(r, width):
+    """The candidate u * 2^i closest to r, the one of larger absolute value on a tie, as (u, i).
+
+    With 2^b the power of two next above |r|, only i from b - w to b are tried: 2^(b-1) is at most |r|, so it is nearer
+    than anything smaller, and below i = b - w every candidate is smaller; 2^b is nearer than anything larger."""
+    above = abs(r).bit_length()
+    tried = [
+        (abs(r - u * 2**i), -abs(u * 2**i), u, i)
+        for i in range(max(0, above - width), above + 1)
+        for u in digit_set(width)
+        if u != 0
+    ]
+    _, _, u, i = min(tried)
+    return u, i
+
+
+def closest(n, bits, width):
+    """While the remaining number is not 0, the closest candidate is put down and subtracted."""
+    digits = [0] * (bits + 1)
+    while n != 0:
+        u, i = nearest(n, width)
+        assert digits[i] == 0
+        digits[i] = u
+        n -= u * 2**i
+    return digits
+
+
+def form_digits(form, width, scalar):
+    n, bits = number(scalar), 8 * len(scalar)
+    if form == MOF:
+        return mof(n, bits)
+    return {WNAF: wnaf, WMOF: wmof, CLOSEST: closest}[form](n, bits, width)
+
+
+# ---- the calls: each returns its fields, and the lent buffers as they are afterwards
+def bad_width(width):
+    return not LEAST_WIDTH <= width <= MOST_WIDTH
+
+
+def marks_of(digits):
+    """Nine words: bit j mod 64 of word j / 64 is set exactly when place j is nonzero."""
+    return [
+        sum(1 << j % MARK_BITS for j, d in enumerate(digits) if d != 0 and j // MARK_BITS == k)
+        for k in range(MARK_WORDS)
+    ]
+
+
+def recode(form, width, scalar, digits, marks):
+    """refusal, place, weight, top; digits, marks"""
+    places = 8 * len(scalar) + 1
+    if form not in FORMS:
+        refusal = 1
+    elif bad_width(width) or form == MOF and width != LEAST_WIDTH:
+        refusal = 2
+    elif len(scalar) > MOST_BYTES:
+        refusal = 3
+    elif len(digits) < places:
+        refusal = 4
+    elif len(marks) < MARK_WORDS:
+        refusal = 5
+    else:
+        made = form_digits(form, width, scalar)
+        return (0, 0, weight(made), top(made)), made + digits[places:], marks_of(made) + marks[MARK_WORDS:]
+    return (refusal, 0, 0, 0), digits, marks
+
+
+def bad_digits(width, digits):
+    allowed = digit_set(width)
+    return [j for j, d in enumerate(digits) if d not in allowed]
+
+
+def crowded(width, digits):
+    """The lower places of all pairs of nonzero digits fewer than w places apart."""
+    nonzero = [j for j, d in enumerate(digits) if d != 0]
+    return [low for low in nonzero if any(low < high < low + width for high in nonzero)]
+
+
+def check(width, scalar, digits, nonadjacent=False):
+    """refusal, place, weight, top"""
+    if bad_width(width):
+        return 2, 0, 0, 0
+    if len(scalar) > MOST_BYTES:
+        return 3, 0, 0, 0
+    if len(digits) > MOST_PLACES:
+        return 7, 0, 0, 0
+    if bad_digits(width, digits):
+        return 8, min(bad_digits(width, digits)), 0, 0
+    if worth(digits) != number(scalar):
+        return 9, 0, 0, 0
+    if nonadjacent and crowded(width, digits):
+        return 10, min(crowded(width, digits)), 0, 0
+    return 0, 0, weight(digits), top(digits)
+
+
+# codes of tape words
+DOUBLE, LOAD, LOAD_NEGATED, ADD, SUBTRACT = range(5)
+
+
+def word(code, digit):
+    """Code in the top four bits; entry e stands for the odd multiple 2e + 1."""
+    return code << 12 | (abs(digit) - 1) // 2
+
+
+def tape_of(digits):
+    """A load for the highest nonzero digit; for each lower place a double, then an add or subtract if it is nonzero."""
+    words = []
+    for d in reversed(digits):
+        if words:
+            words.append(DOUBLE << 12)
+            if d != 0:
+                words.append(word(ADD if d > 0 else SUBTRACT, d))
+        elif d != 0:
+            words.append(word(LOAD if d > 0 else LOAD_NEGATED, d))
+    return words
+
+
+def tape(width, digits, words):
+    """refusal, place, word count, doublings, additions; words"""
+    made = tape_of(digits)
+    if bad_width(width):
+        refusal, place = 2, 0
+    elif len(digits) > MOST_PLACES:
+        refusal, place = 7, 0
+    elif bad_digits(width, digits):
+        refusal, place = 8, min(bad_digits(width, digits))
+    elif len(words) < len(made):
+        refusal, place = 11, 0
+    else:
+        counts = len(made), max(top(digits) - 1, 0), max(weight(digits) - 1, 0)
+        return (0, 0, *counts), made + words[len(made) :]
+    return (refusal, place, 0, 0, 0), words
+
+
+def code_of(x):
+    return x >> 12
+
+
+def entry_of(x):
+    return x & 0xFFF
+
+
+def entries(width):
+    return 2 ** (width - 2)
+
+
+def good(width, index, x):
+    """Code 0..4, entry below 2^(w-2), a double's entry 0, and a load exactly when it is the first word."""
+    code, entry = code_of(x), entry_of(x)
+    is_load = code in (LOAD, LOAD_NEGATED)
+    return code <= SUBTRACT and entry < entries(width) and (code != DOUBLE or entry == 0) and is_load == (index == 0)
+
+
+def bad_words(width, words):
+    return [i for i, x in enumerate(words) if not good(width, i, x)]
+
+
+def tape_value(words):
+    """The whole number that a tape leaves."""
+    value = 0
+    for x in words:
+        multiple = 2 * entry_of(x) + 1
+        value = {
+            DOUBLE: 2 * value,
+            LOAD: multiple,
+            LOAD_NEGATED: -multiple,
+            ADD: value + multiple,
+            SUBTRACT: value - multiple,
+        }[code_of(x)]
+    return value
+
+
+def run(width, words, modulus, base, multiples):
+    """refusal, place, residue, doublings, additions, cost; multiples"""
+    place = 0
+    if bad_width(width):
+        refusal = 2
+    elif modulus == 0:
+        refusal = 12
+    elif len(words) > MOST_WORDS:
+        refusal = 13
+    elif len(multiples) < entries(width):
+        refusal = 14
+    elif bad_words(width, words):
+        refusal, place = 15, min(bad_words(width, words))
+    else:
+        doublings = sum(1 for x in words if code_of(x) == DOUBLE)
+        additions = sum(1 for x in words if code_of(x) in (ADD, SUBTRACT))
+        stored = [(2 * e + 1) * base % modulus for e in range(entries(width))]
+        residue = tape_value(words) * base % modulus
+        return (0, 0, residue, doublings, additions, entries(width) - 1), stored + multiples[len(stored) :]
+    return (refusal, place, 0, 0, 0, 0), multiples
+
+
+def reader(width, scalar, calls):
+    """refusal; what each call gives, a digit or None for done"""
+    if bad_width(width):
+        return 2, [None] * calls
+    if len(scalar) > MOST_BYTES:
+        return 3, [None] * calls
+    sequence = list(reversed(form_digits(WMOF, width, scalar)))
+    return 0, [sequence[k] if k < len(sequence) else None for k in range(calls)]
+
+
+@functools.lru_cache(maxsize=None)
+def least_weight(z, width, places):
+    """The least weight of any string of D_w digits on so many places that is worth z; None if there is none."""
+    if places == 0:
+        return 0 if z == 0 else None
+    found = []
+    for d in digit_set(width):
+        if (z - d) % 2 == 0:
+            rest = least_weight((z - d) // 2, width, places - 1)
+            if rest is not None:
+                found.append(rest + (1 if d != 0 else 0))
+    return min(found, default=None)
+
+
+def search(n, width):
+    """refusal, weight"""
+    if width not in (2, 3):
+        return 2, 0
+    if n > SEARCH_MOST:
+        return 3, 0
+    return 0, least_weight(n, width, SEARCH_PLACES)
+
+
+# ---- lines of hexadecimal
+HEXADECIMAL = b"0123456789ABCDEFabcdef"
+
+
+def lines_of(data):
+    """A line ends at a line feed; a last line without one counts if not empty."""
+    lines = data.split(b"\n")
+    return lines[:-1] if lines[-1] == b"" else lines
+
+
+def bytes_of(line):
+    """The bytes of a line's pairs, or None where it is empty, of odd length or holds another character."""
+    if line == b"" or len(line) % 2 == 1 or any(c not in HEXADECIMAL for c in line):
+        return None
+    return bytes.fromhex(line.decode("ascii"))
+
+
+def written(data):
+    return data.hex().upper().encode("ascii")
+
+
+def signed(data):
+    """Bytes as digits, in two's complement."""
+    return [b - 256 if b >= 128 else b for b in data]
+
+
+def big_endian(values, size):
+    """Numbers of so many bytes each, the high byte first, in two's complement."""
+    return b"".join((v % 256**size).to_bytes(size, "big") for v in values)
+
+
+# ---- the recode program
+def recode_answer(line):
+    """One line of the recode program, its line feed left out."""
+    frame = bytes_of(line)
+    if frame is None or len(line) > MOST_CHARACTERS or len(frame) < 3 or len(frame) != 3 + frame[2]:
+        return written(bytes([16]))
+    form, width, scalar = frame[0], frame[1], frame[3:]
+    room = 8 * len(scalar) + 1
+    (refusal, _, weighs, tops), digits, _ = recode(form, width, scalar, [0] * room, [0] * MARK_WORDS)
+    if refusal != 0:
+        return written(bytes([refusal]))
+    return written(bytes([0]) + big_endian([weighs, tops], 2) + big_endian(digits, 1))
+
+
+# ---- the trial program
+LENT_DIGIT, LENT_MARK, LENT_WORD, LENT_MULTIPLE = 0x5A, 0xA5A5A5A5A5A5A5A5, 0xEEEE, 0xDEADBEEF
+TRIAL_PLACES, TRIAL_MARKS, TRIAL_WORDS = 600, 12, 1100
+TRIAL_MULTIPLES, TRIAL_BYTES, TRIAL_CALLS = 80, 80, 700
+TRIAL_CHARACTERS = 2 * (12 + 2 * TRIAL_WORDS)
+
+
+class NoFrame(Exception):
+    """The line is no frame of the trial program, or asks for more than it has."""
+
+
+class Frame:
+    """The bytes of a line, taken field by field."""
+
+    def __init__(self, data):
+        self.rest = data
+
+    def take(self, size):
+        if len(self.rest) < size:
+            raise NoFrame
+        taken, self.rest = self.rest[:size], self.rest[size:]
+        return taken
+
+    def number(self, size, most=None):
+        n = number(self.take(size))
+        if most is not None and n > most:
+            raise NoFrame
+        return n
+
+    def remaining(self, most, size=1):
+        """All that is left, in elements of so many bytes."""
+        data = self.take(len(self.rest))
+        if len(data) % size != 0 or len(data) // size > most:
+            raise NoFrame
+        return data
+
+
+def trial_recode(frame):
+    form, width = frame.number(1), frame.number(1)
+    digits = [LENT_DIGIT] * frame.number(2, TRIAL_PLACES)
+    marks = [LENT_MARK] * frame.number(1, TRIAL_MARKS)
+    (refusal, *fields), digits, marks = recode(form, width, frame.remaining(TRIAL_BYTES), digits, marks)
+    return bytes([refusal]) + big_endian(fields, 2) + big_endian(digits, 1) + big_endian(marks, 8)
+
+
+def trial_check(frame, nonadjacent=False):
+    width = frame.number(1)
+    scalar = frame.take(frame.number(1, TRIAL_BYTES))
+    refusal, *fields = check(width, scalar, signed(frame.remaining(TRIAL_PLACES)), nonadjacent)
+    return bytes([refusal]) + big_endian(fields, 2)
+
+
+def trial_nonadjacent(frame):
+    return trial_check(frame, nonadjacent=True)
+
+
+def trial_tape(frame):
+    width = frame.number(1)
+    words = [LENT_WORD] * frame.number(2, TRIAL_WORDS)
+    (refusal, *fields), words = tape(width, signed(frame.remaining(TRIAL_PLACES)), words)
+    return bytes([refusal]) + big_endian(fields + words, 2)
+
+
+def trial_run(frame):
+    width = frame.number(1)
+    multiples = [LENT_MULTIPLE] * frame.number(2, TRIAL_MULTIPLES)
+    modulus, base = frame.number(4), frame.number(4)
+    data = frame.remaining(TRIAL_WORDS, 2)
+    words = [number(data[i : i + 2]) for i in range(0, len(data), 2)]
+    (refusal, place, residue, *counts), multiples = run(width, words, modulus, base, multiples)
+    fields = big_endian([refusal], 1) + big_endian([place], 2) + big_endian([residue], 4) + big_endian(counts, 2)
+    return fields + big_endian(multiples, 4)
+
+
+def trial_reader(frame):
+    width, calls = frame.number(1), frame.number(2, TRIAL_CALLS)
+    refusal, given = reader(width, frame.remaining(TRIAL_BYTES), calls)
+    return bytes([refusal]) + b"".join(bytes(2) if d is None else b"\1" + big_endian([d], 1) for d in given)
+
+
+def trial_search(frame):
+    width, n = frame.number(1), frame.number(4)
+    frame.remaining(0)
+    return bytes(search(n, width))
+
+
+TRIALS = [trial_recode, trial_check, trial_nonadjacent, trial_tape, trial_run, trial_reader, trial_search]
+
+
+def trial_answer(line):
+    """One line of the trial program, its line feed left out."""
+    data = bytes_of(line)
+    if data is None or not 1 <= data[0] <= len(TRIALS):
+        return b"FF"
+    try:
+        return written(TRIALS[data[0] - 1](Frame(data[1:])))
+    except NoFrame:
+        return b"FF"
+
+
+ANSWERS = {"recode": recode_answer, "trial": trial_answer}
+
+
+def output_of(program, data):
+    """What a program writes for its whole input."""
+    return b"".join(ANSWERS[program](line) + b"\n" for line in lines_of(data))
+
+
+# ---- the definitions held against each other
+def check_string(n, bits, width, digits):
+    assert len(digits) == bits + 1
+    assert not bad_digits(width, digits)
+    assert worth(digits) == n
+
+
+def check_forms():
+    """Each form is worth the scalar in its digit set, wNAF is spaced, and all three weigh least and keep the bound."""
+    for n in range(256):
+        check_string(n, 8, LEAST_WIDTH, mof(n, 8))
+        for width in range(LEAST_WIDTH, MOST_WIDTH + 1):
+            strings = [form(n, 8, width) for form in (wnaf, wmof, closest)]
+            for digits in strings:
+                check_string(n, 8, width, digits)
+                assert weight(digits) == weight(strings[0]) <= (8 + width) // width
+            assert not crowded(width, strings[0])
+            if width <= 4:
+                assert weight(strings[0]) == least_weight(n, width, 11)
+
+
+def check_nearest():
+    """The candidates that `nearest` tries are enough: with every place tried the answer is the same."""
+    for width in (2, 3, 4):
+        for r in range(-300, 301):
+            every = [(abs(r - u * 2**i), -abs(u * 2**i), u, i) for i in range(12) for u in digit_set(width) if u != 0]
+            assert r == 0 or nearest(r, width) == min(every)[2:]
+
+
+def check_tapes():
+    """A tape's value is its string's worth, the run is scalar times base, and the reader is wMOF from the top."""
+    for n in range(0, 65536, 97):
+        scalar = n.to_bytes(2, "big")
+        for width in range(LEAST_WIDTH, MOST_WIDTH + 1):
+            for form in (WNAF, WMOF, CLOSEST):
+                digits = form_digits(form, width, scalar)
+                (refusal, _, count, doublings, additions), words = tape(width, digits, [0] * MOST_WORDS)
+                assert refusal == 0 and tape_value(words[:count]) == worth(digits) == n
+                ran, _ = run(width, words[:count], 1009, 1234567, [0] * 64)
+                assert ran == (0, 0, n * 1234567 % 1009, doublings, additions, entries(width) - 1)
+                assert check(width, scalar, digits) == (0, 0, weight(digits), top(digits))
+            assert check(width, scalar, form_digits(WNAF, width, scalar), nonadjacent=True)[0] == 0
+            assert reader(width, scalar, 17)[1] == form_digits(WMOF, width, scalar)[::-1]
+
+
+def own_checks():
+    check_forms()
+    check_nearest()
+    check_tapes()
+
+
+# ---- stored files
+def stored_files():
+    """The contents of each stored file, by its path from the repository's root."""
+    import cases
+
+    files = {}
+    for program, data in (("recode", cases.recode_input()), ("trial", cases.trial_input())):
+        files[f"crates/{program}/stdin"] = data
+        files[f"crates/{program}/stdout"] = output_of(program, data)
+    return files
+
+
+def differing_line(a, b):
+    """The number of the first line in which two files differ."""
+    for i, (x, y) in enumerate(zip(a.split(b"\n"), b.split(b"\n"))):
+        if x != y:
+            return i + 1
+    return 1 + min(a.count(b"\n"), b.count(b"\n"))
+
+
+def main(words):
+    if words not in (["write"], ["check"]):
+        sys.exit("usage: second.py write | check")
+    own_checks()
+    root = os.path.dirname(os.path.dirname(os.path.abspath(__file__)))
+    for path, made in stored_files().items():
+        place = os.path.join(root, path)
+        if words == ["write"]:
+            os.makedirs(os.path.dirname(place), exist_ok=True)
+            with open(place, "wb") as file:
+                file.write(made)
+            print(f"second.py: {path}, {made.count(10)} line feeds, {len(made)} bytes")
+            continue
+        if not os.path.exists(place):
+            sys.exit(f"second.py: {path} is missing")
+        with open(place, "rb") as file:
+            stored = file.read()
+        if stored != made:
+            sys.exit(f"second.py: {path} differs in line {differing_line(stored, made)}")
+    if words == ["check"]:
+        print("second.py: the stored files are as made")
+
+
+if __name__ == "__main__":
+    main(sys.argv[1:])
