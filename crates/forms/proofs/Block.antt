@@ -1,6 +1,6 @@
 -- An integer v ≢ 0 as u · 2 ^ k with u odd, and the place where u goes when a block worth v is taken off. Assumes nothing.
-use mathlib.Core.Path.{_≡_, refl, sym, ap, _∙_}
-use Prim.Native.Nat.{ℕ, zero, suc, _+_, _*_, _-_, _/_, _%_, _^_, _<_, _≤_}
+use mathlib.Core.Path.{_≡_, sym, ap, _∙_}
+use Prim.Native.Nat.{ℕ, suc, _+_, _*_, _-_, _%_, _^_, _<_, _≤_}
 use native.Mathlib.Omega.{arith}
 use native.Mathlib.Decide.{decLe}
 use native.Mathlib.Nat.{pow-succ', mul-le-mul-left, mul-le-mul-right, div-eq-of-eq-mul-right}

@@ -6,8 +6,8 @@ use native.Mathlib.Nat.{le-refl, mul-le-mul-right, lt-of-mul-lt-mul-left}
 use lib.Pow.{pow-pos}
 use lib.IntN.{ℤ, pos, natAbs, _+ℤ_, _-ℤ_, _*ℤ_}
 use mathlib.Core.Path.{ap}
-use Rattle.laws.proofs.Integers.{up, dn, parts, diffs, ring, abs-mul, abs-block, abs-zero}
-use Rattle.laws.proofs.Division.{Near, near, Parity, isEven, isOdd, parity}
+use Rattle.laws.proofs.Integers.{parts, diffs, ring, abs-mul, abs-block, abs-zero}
+use Rattle.laws.proofs.Division.{near, Parity, isEven, isOdd, parity}
 use Rattle.laws.proofs.Powers.{pow-four}
 use Rattle.forms.proofs.Naf.{odd-small, Digit, Naf, nil, even, odd}
 

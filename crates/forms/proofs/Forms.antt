@@ -1,6 +1,6 @@
 -- What each form's string has, by the form's number: it exists on n + 1 places, so that no digit is needed above place n; it is one only, worth N, and in D_w;
 -- forms 2 to 4 have the least weight and keep the bound. Assumes nothing.
-use mathlib.Core.Path.{_≡_, refl, sym, ap, subst, _∙_}
+use mathlib.Core.Path.{_≡_, refl, sym, ap, _∙_}
 use mathlib.Core.List.{List}
 use Prim.Native.Nat.{ℕ, zero, suc, _+_, _/_, _^_, _<_, _≤_}
 use native.Mathlib.Omega.{arith}

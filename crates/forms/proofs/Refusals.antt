@@ -1,9 +1,9 @@
 -- Rules of refusal: the number and the place of the first rule that applies are one only, where each rule tells its place; and what is granted or kept.
 -- Assumes nothing.
 use mathlib.Core.Path.{_≡_, refl, sym, ap, _∙_}
-use mathlib.Core.Logic.{_≢_, _⊎_, inl, inr}
+use mathlib.Core.Logic.{_≢_, inl, inr}
 use mathlib.Core.List.{List, [], _∷_}
-use Prim.Native.Nat.{ℕ, zero, suc, _<_, _≤_}
+use Prim.Native.Nat.{ℕ, zero, suc, _<_}
 use native.Mathlib.Omega.{arith}
 use native.Mathlib.Decide.{decLt}
 use Rattle.meaning.specs.Refusals.{Rule, plain, lowest, First, granted, kept}
@@ -45,10 +45,6 @@ first-only (x ∷ xs) (t, ts) r p r′ p′ (inr (n, f)) (inl (c, d)) = absurd (
 first-only (x ∷ xs) (t, ts) r p r′ p′ (inr (n, f)) (inr (m, g)) = first-only xs ts r p r′ p′ f g
 
 -- ---- in a refusal
-pub granted-none : (r x : ℕ) → r ≢ 0 → granted r x ≡ 0
-granted-none zero x n = absurd (n refl)
-granted-none (suc r) x n = refl
-
 pub kept-lent : {A : Type 0} (r : ℕ) (written lent : List A) → r ≢ 0 → kept r written lent ≡ lent
 kept-lent zero written lent n = absurd (n refl)
 kept-lent (suc r) written lent n = refl

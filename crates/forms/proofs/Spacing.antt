@@ -7,13 +7,12 @@ use Prim.Native.Nat.{ℕ, zero, suc, _+_, _*_, _-_, _/_, _^_, _<_, _≤_}
 use native.Mathlib.Omega.{arith}
 use native.Mathlib.Nat.{le-div-iff-mul-le, pow-succ', suc-add}
 use lib.ListN.{length, getD, drop}
-use lib.Pow.{pow-pos, pow-add}
-use lib.IntN.{ℤ, ℤ-discrete, pos, natAbs, _+ℤ_, _*ℤ_, +ℤ-idl, +ℤ-comm}
-use Rattle.laws.proofs.Integers.{parts, diffs, ring, abs-mul, same-left}
+use lib.IntN.{ℤ, pos, natAbs, _+ℤ_, _*ℤ_, +ℤ-idl, +ℤ-comm}
+use Rattle.laws.proofs.Integers.{parts, diffs, ring, same-left}
 use Rattle.laws.proofs.Division.{halve, same-quo}
 use Rattle.laws.proofs.Powers.{pow-four, pow-pred}
 use Rattle.meaning.specs.Digits.{worth, weight, nonzero, Apart}
-use Rattle.forms.proofs.Naf.{Digit, Digits, none, gap, some, Naf, nil, even, odd, nonzero-odd, least-weight}
+use Rattle.forms.proofs.Naf.{Digit, Digits, none, gap, some, Naf, nil, even, odd, nonzero-odd}
 use Rattle.forms.proofs.Unique.{unique}
 use Rattle.forms.proofs.Exists.{naf}
 use Rattle.forms.proofs.Built.{naf-shift}

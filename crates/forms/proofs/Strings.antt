@@ -1,18 +1,17 @@
 -- Strings by their places: weight and top of a string one digit longer, their bounds, and digits that are all in a set.
 -- Assumes nothing.
-use mathlib.Core.Path.{_≡_, refl, sym, ap, _∙_}
+use mathlib.Core.Path.{_≡_, refl, ap, _∙_}
 use mathlib.Core.Logic.{_≢_}
-use mathlib.Core.Bool.{Bool, true, false, not, _&&_}
 use mathlib.Core.List.{List, [], _∷_, _++_}
 use Prim.Native.Nat.{ℕ, zero, suc, _+_, _-_, _<_, _≤_}
 use native.Mathlib.Numerals.{add-one}
 use native.Mathlib.Omega.{arith}
 use lib.Dec.{T}
 use lib.IntN.{ℤ, pos, negsuc}
-use lib.ListN.{length, getD, take, drop}
-use lib.Seq.{take-suc, take-all, length-take-le}
+use lib.ListN.{length, getD, take}
+use lib.Seq.{take-suc, length-take-le}
 use Rattle.laws.proofs.Choices.{and-of, and-both}
-use Rattle.meaning.specs.Digits.{largest, inSet, allIn, nonzero, weight, over, top}
+use Rattle.meaning.specs.Digits.{inSet, allIn, nonzero, weight, over, top}
 
 -- ---- a digit
 pub nonzero-le : (d : ℤ) → nonzero d ≤ 1

@@ -3,24 +3,24 @@
 use mathlib.Core.Path.{_≡_, refl, sym, ap, _∙_, subst}
 use mathlib.Core.Logic.{_≢_}
 use mathlib.Core.List.{List}
-use Prim.Native.Nat.{ℕ, zero, suc, _+_, _*_, _-_, _^_, _<_, _≤_}
+use Prim.Native.Nat.{ℕ, zero, suc, _*_, _-_, _^_, _<_, _≤_}
 use native.Mathlib.Omega.{arith}
 use native.Mathlib.Decide.{decLe}
 use native.Mathlib.Nat.{mul-le-mul-left}
-use lib.ListN.{length, getD, set, replicate, length-set, length-replicate}
+use lib.ListN.{length, getD, replicate, length-set, length-replicate}
 use lib.Seq.{getD-set-other}
 use lib.Dec.{T}
-use lib.Pow.{pow-pos, pow-mono, pow-lt}
+use lib.Pow.{pow-pos, pow-lt}
 use lib.IntN.{ℤ, pos, natAbs, _-ℤ_, _*ℤ_}
 use Rattle.laws.proofs.Integers.{parts, diffs, ring, abs-mul, abs-zero, abs-pos, cancel}
 use Rattle.laws.proofs.Powers.{pow-times}
-use Rattle.meaning.specs.Digits.{worth, inSet, allIn, largest}
-use Rattle.meaning.specs.Closest.{Tie, Candidate, IsClosest, Takes, done, take, Closest}
+use Rattle.meaning.specs.Digits.{worth, allIn, largest}
+use Rattle.meaning.specs.Closest.{Tie, IsClosest, Takes, done, take}
 use Rattle.forms.proofs.Naf.{Digit}
 use Rattle.forms.proofs.DigitSets.{digit-of, all-in}
 use Rattle.forms.proofs.Built.{Built, blank, put, built-worth, built-digits}
 use Rattle.forms.proofs.Wmof.{zero-at}
-use Rattle.forms.proofs.Nearest.{candidate, odd-digit, sides, sgn, sgn-digit, sgn-near, sgn-far, nearest-round, nearest-drop, scale, self-zero, self-candidate, closest-unique}
+use Rattle.forms.proofs.Nearest.{candidate, sides, sgn, sgn-digit, sgn-near, sgn-far, nearest-round, nearest-drop, scale, self-zero, self-candidate, closest-unique}
 
 -- ---- one step
 module _ {tie : Tie} {w : ℕ} (two : 2 ≤ w) {R c : ℤ} (some : R ≢ pos 0) (C : IsClosest tie w R c) where

@@ -1,11 +1,11 @@
 -- wNAF as code makes it, place by place: what a turn gives where R remains, from the window of w bits and the carry. What remains has the closed form `remaining`.
 -- Assumes nothing.
-use mathlib.Core.Path.{_≡_, refl, sym, ap, _∙_}
-use Prim.Native.Nat.{ℕ, zero, suc, _+_, _*_, _-_, _/_, _%_, _^_, _<_, _≤_}
+use mathlib.Core.Path.{_≡_, sym, ap, _∙_}
+use Prim.Native.Nat.{ℕ, _+_, _*_, _-_, _/_, _%_, _^_, _<_, _≤_}
 use native.Mathlib.Omega.{arith}
 use native.Mathlib.Nat.{mod-lt, mul-one, div-one, add-zero}
 use lib.Pow.{pow-pos, split, low, high, shr-shr}
-use lib.IntN.{ℤ, pos, _-ℤ_}
+use lib.IntN.{pos, _-ℤ_}
 use Rattle.laws.proofs.Powers.{pow-pred}
 use Rattle.forms.specs.Wnaf.{wnafDigit, wnafNext, remaining, Turn}
 use Rattle.forms.proofs.Wnaf as W

@@ -5,8 +5,8 @@ use native.Mathlib.Omega.{arith}
 use native.Mathlib.Decide.{decLt}
 use native.Mathlib.Nat.{suc-add, add-assoc, le-add-left, le-dest, lt-of-mul-lt-mul-left}
 use lib.Pow.{pow-pos, pow-mono, pow-add}
-use lib.IntN.{ℤ, pos, negsuc, natAbs, _+ℤ_, _-ℤ_, _*ℤ_, +ℤ-idl}
-use Rattle.laws.proofs.Integers.{up, dn, parts, diffs, ring, abs, abs-max, abs-mul, abs-block}
+use lib.IntN.{ℤ, pos, natAbs, _+ℤ_, _-ℤ_, _*ℤ_, +ℤ-idl}
+use Rattle.laws.proofs.Integers.{up, dn, parts, diffs, ring, abs, abs-mul, abs-block}
 use Rattle.laws.proofs.Division.{same-quo, halve}
 use Rattle.forms.proofs.Naf.{odd-small, Digit, Naf, nil, even, odd}
 

@@ -1,6 +1,6 @@
 -- Least weight and the bound, for wNAF, wMOF and the closest form under either tie rule: each has the nonadjacent weight of its number, so no string of D_w digits
 -- that is worth the number is lighter, whatever its length, and n + 1 places hold at most (n + w) / w nonzeros. Assumes nothing.
-use mathlib.Core.Path.{_≡_, sym, ap, subst, _∙_}
+use mathlib.Core.Path.{_≡_, sym, subst, _∙_}
 use mathlib.Core.List.{List}
 use Prim.Native.Nat.{ℕ, _+_, _/_, _^_, _<_, _≤_}
 use native.Mathlib.Omega.{arith}
@@ -11,7 +11,6 @@ use Rattle.meaning.specs.Digits.{worth, weight, allIn, largest}
 use Rattle.meaning.specs.Wnaf.{Wnaf}
 use Rattle.meaning.specs.Wmof.{wmof}
 use Rattle.meaning.specs.Closest.{Tie, Closest}
-use Rattle.forms.specs.Wnaf.{wnafFrom}
 use Rattle.forms.proofs.Naf.{Naf, least-weight}
 use Rattle.forms.proofs.Unique.{unique}
 use Rattle.forms.proofs.Exists.{naf}
@@ -20,7 +19,7 @@ use Rattle.forms.proofs.Built.{built-weight}
 use Rattle.forms.proofs.Wmof.{wmof-built}
 use Rattle.forms.proofs.Taken.{takes-built}
 use Rattle.forms.proofs.Spacing.{apart-naf, apart-bound}
-use Rattle.forms.proofs.Wnaf.{wnaf-is, wnaf-digits, wnaf-apart}
+use Rattle.forms.proofs.Wnaf.{wnaf-is, wnaf-digits}
 
 -- ds has the nonadjacent weight of N
 pub record Light (w N : ℕ) (ds : List ℤ) : Type 0 where

@@ -1,20 +1,19 @@
 -- Form 2, wNAF: the function `wnafFrom` gives it on n + 1 places, so it exists; it is the only one. Assumes nothing.
 use mathlib.Core.Path.{_≡_, refl, sym, ap, _∙_}
 use mathlib.Core.Logic.{_≢_}
-use mathlib.Core.List.{List, [], _∷_}
+use mathlib.Core.List.{List, _∷_}
 use Prim.Native.Nat.{ℕ, zero, suc, _+_, _*_, _-_, _/_, _%_, _^_, _<_, _≤_}
 use native.Mathlib.Omega.{arith}
 use native.Mathlib.Decide.{decLe, decLt}
 use native.Mathlib.Numerals.{add-one}
 use native.Mathlib.Nat.{mod-lt, mul-le-mul-right, lt-of-mul-lt-mul-left, pow-succ', mod-le, div-eq-of-lt, suc-add}
 use borrow.Author.Tests.{eq-eqb, ne-eqb, lt-ltb, le-ltb}
-use lib.Dec.{T}
 use lib.ListN.{length, getD}
 use lib.Pow.{pow-pos, pow-mono, pow-add, split}
 use lib.IntN.{ℤ, pos, natAbs, _+ℤ_, _-ℤ_, _*ℤ_}
-use Rattle.laws.proofs.Integers.{parts, diffs, ring, minus, abs-is, sub-is, up, dn}
+use Rattle.laws.proofs.Integers.{diffs, ring, minus, abs-is, sub-is, up, dn}
 use Rattle.laws.proofs.Powers.{pow-pred}
-use Rattle.meaning.specs.Digits.{worth, allIn, largest, Apart}
+use Rattle.meaning.specs.Digits.{worth, Apart}
 use Rattle.meaning.specs.Wnaf.{Wnaf}
 use Rattle.forms.specs.Wnaf.{wnafDigit, wnafNext, wnafFrom}
 use Rattle.forms.proofs.Naf.{Digit, Digits, none, gap, some}

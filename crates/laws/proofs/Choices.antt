@@ -41,10 +41,6 @@ pub or-either : (p q : Bool) → T (p || q) → T p ⊎ T q
 or-either true q t = inl tt
 or-either false q t = inr t
 
-pub or-left : (p q : Bool) → T p → T (p || q)
-or-left true q t = tt
-or-left false q t = absurd t
-
 pub or-right : (p q : Bool) → T q → T (p || q)
 or-right true q t = tt
 or-right false q t = t

@@ -2,10 +2,10 @@
 -- An equation of integers in the variables x and y is `rw (parts x, parts y) (simp diffs (omega ring))`.
 -- A hypothesis `h` that is one is first turned, `let k = simp diffs at (rw (parts x, parts y) at h) in`.
 -- A bound `natAbs x ≤ B` is read through the fact `abs x`, and `abs-max x (omega ..)` proves one; `abs-is` tells an absolute value exactly. Assumes nothing.
-use mathlib.Core.Path.{_≡_, refl, sym, ap, _∙_}
+use mathlib.Core.Path.{_≡_, refl, ap, _∙_}
 use mathlib.Core.Logic.{_≢_}
 use mathlib.Core.Bool.{Bool, true, false, not, cond}
-use Prim.Native.Nat.{ℕ, zero, suc, _+_, _*_, _-_, _^_, _<_, _≤_, min}
+use Prim.Native.Nat.{ℕ, zero, suc, _+_, _*_, _-_, _<_, _≤_, min}
 use native.Mathlib.Omega.{arith}
 use native.Mathlib.Nat.{pow-succ', lt-of-mul-lt-mul-left}
 use lib.Dec.{T, ltb, ltb→lt, nltb→le}

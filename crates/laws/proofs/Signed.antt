@@ -1,6 +1,6 @@
 -- Signed machine numbers: a magnitude as code finds it, widened from one width to another and taken from 0, by one law for every two widths; and a small
 -- number as a signed one, with or without its sign changed. Assumes nothing.
-use mathlib.Core.Path.{_≡_, refl, ap, sym, _∙_, subst}
+use mathlib.Core.Path.{_≡_, ap, sym, _∙_, subst}
 use mathlib.Core.Bool.{Bool, true, false}
 use Prim.Native.Nat.{ℕ, zero, suc, _^_, _<_}
 use native.Mathlib.Omega.{arith}
@@ -63,9 +63,6 @@ module _ (w v : Width) (l : 2 ^ hbits w < 2 ^ hbits v) (u : 2 ^ hbits w < 2 ^ bi
 
   pub plain-good : below0 Wide ≡ false → T (nonNeg Wide) × Fits w (natAbs Wide)
   plain-good e = let g = pos-good z u (f .sfits) (ap below0 (sym back) ∙ e) in rw back (g .0, record { fits = g .1 })
-
-  pub plain-abs : natAbs Wide ≡ natAbs z
-  plain-abs = ap natAbs back
 
 -- ---- a number below half of the width's range
 module _ (w : Width) (n : ℕ) (h : n < 2 ^ hbits w) where

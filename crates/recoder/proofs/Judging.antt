@@ -4,11 +4,9 @@ use mathlib.Core.Logic.{_⊎_, _≢_, inl, inr, ⊎-elim}
 use mathlib.Core.List.{List}
 use Prim.Native.Nat.{ℕ, _+_, _^_, _<_, _≤_}
 use native.Mathlib.Omega.{arith}
-use lib.IntN.{ℤ}
 use lib.ListN.{length}
 use Rattle.meaning.specs.Scalars.{number, bitCount}
 use Rattle.meaning.specs.Refusals.{plain, First}
-use Rattle.meaning.specs.Forms.{Form}
 use Rattle.meaning.specs.Recoding.{recodeRules}
 use Rattle.forms.proofs.Forms.{form-exists}
 use Rattle.recoder.specs.Judged.{Allowed}

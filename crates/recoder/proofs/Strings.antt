@@ -1,6 +1,5 @@
 -- Strings that loops write place by place: MOF by its bits, wNAF by what remains. Assumes nothing.
-use mathlib.Core.Path.{_≡_, refl, sym, ap, _∙_}
-use mathlib.Core.List.{List, _∷_}
+use mathlib.Core.Path.{_≡_, sym, ap, _∙_}
 use Prim.Native.Nat.{ℕ, suc, _+_, _*_, _-_, _%_, _^_, _<_, _≤_}
 use native.Mathlib.Omega.{arith}
 use native.Mathlib.Nat.{sub-zero, one-mul, mod-eq-of-lt, lt-of-le-of-lt}
@@ -8,7 +7,7 @@ use lib.ListN.{length, getD, drop}
 use lib.Seq.{drop-drop, drop-cons}
 use lib.Dec.{lit<}
 use lib.Pow.{pow-mono}
-use lib.IntN.{ℤ, pos, negsuc, negℤ, _-ℤ_}
+use lib.IntN.{pos, negsuc, negℤ, _-ℤ_}
 use Rattle.laws.proofs.Integers.{diffs, ring, minus}
 use Rattle.forms.specs.Wnaf.{wnafDigit, wnafNext, wnafFrom}
 

@@ -1,7 +1,7 @@
 -- What one place's turn of wNAF gives, where R remains of N at place i. Assumes nothing.
 use mathlib.Core.Path.{_≡_}
-use Prim.Native.Nat.{ℕ, _+_, _-_, _^_, _≤_, _<_}
-use lib.IntN.{ℤ, pos, _-ℤ_}
+use Prim.Native.Nat.{ℕ, _-_, _^_, _≤_, _<_}
+use lib.IntN.{pos, _-ℤ_}
 use Rattle.forms.specs.Wnaf.{Turn}
 use Rattle.recoder.specs.declared.wnaf.Place.{Place}
 

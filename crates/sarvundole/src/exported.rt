@@ -1,5 +1,4 @@
 // The calls for C. A slice is a pointer and a count there, and an answer a struct by value. Each promises what the call that it makes promises.
-ghost use mathlib.Core.Path.{_≡_};
 ghost use Rattle.meaning.specs.Recoding.{Recode};
 ghost use Rattle.meaning.specs.Checking.{checkRules, nonadjacentRules, Check};
 ghost use Rattle.meaning.specs.Taping.{Tape};

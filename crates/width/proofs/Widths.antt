@@ -1,9 +1,9 @@
--- What is known of the width that a byte was found to be, and of a byte that is none; and what holds at each of the seven widths holds at every one.
+-- What is known of the width that a byte was found to be, and of a byte that is none.
 -- Assumes nothing.
 use mathlib.Core.Path.{_≡_, refl, sym, ap, _∙_}
 use mathlib.Core.Logic.{_⊎_, inl, inr}
 use mathlib.Core.Bool.{Bool, true, false, cond, _&&_}
-use Prim.Native.Nat.{ℕ, zero, suc, _≤_, _<_}
+use Prim.Native.Nat.{ℕ, _≤_, _<_}
 use native.Mathlib.Omega.{arith}
 use borrow.Author.Tests.{leb-true, leb-false, le-leb, lt-leb}
 use lib.Dec.{leb}
@@ -67,17 +67,3 @@ above-most l h = simp (le-leb _ _ l, lt-leb _ _ h)
 pub between : {byte : ℕ} → Lawful byte → As (record { bits = byte }) ≡ knownOf byte
 unfolding knownOf
 between h = simp (le-leb _ _ (h .0), le-leb _ _ (h .1))
-
--- ---- the seven widths
--- a law that is shown at each of them
-pub widths {ℓ} : (P : ℕ → Type ℓ) → P 2 → P 3 → P 4 → P 5 → P 6 → P 7 → P 8 → (w : ℕ) → Lawful w → P w
-widths P a b c d e f g zero h = absurd (omega arith)
-widths P a b c d e f g (suc zero) h = absurd (omega arith)
-widths P a b c d e f g (suc (suc zero)) h = a
-widths P a b c d e f g (suc (suc (suc zero))) h = b
-widths P a b c d e f g (suc (suc (suc (suc zero)))) h = c
-widths P a b c d e f g (suc (suc (suc (suc (suc zero))))) h = d
-widths P a b c d e f g (suc (suc (suc (suc (suc (suc zero)))))) h = e
-widths P a b c d e f g (suc (suc (suc (suc (suc (suc (suc zero))))))) h = f
-widths P a b c d e f g (suc (suc (suc (suc (suc (suc (suc (suc zero)))))))) h = g
-widths P a b c d e f g (suc (suc (suc (suc (suc (suc (suc (suc (suc w))))))))) h = absurd (omega arith)

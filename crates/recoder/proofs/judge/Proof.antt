@@ -1,10 +1,9 @@
 -- `recoder::judge` meets its contract: the rules before the first that applies do not. Assumes nothing.
-use mathlib.Core.Path.{_≡_, refl, sym, ap, _∙_}
-use mathlib.Core.Logic.{_⊎_, _≢_, inl, inr, ⊎-elim}
+use mathlib.Core.Path.{refl}
+use mathlib.Core.Logic.{_⊎_, inl, inr, ⊎-elim}
 use native.Mathlib.Omega.{arith}
 use borrow.Author.Needs.{needs}
 use denote.Ref.{now}
-use Rattle.meaning.specs.Scalars.{number, bitCount}
 use Rattle.width.proofs.Widths.{known-bits, known-lawful, known-bad}
 use Rattle.scalar.proofs.Bytes.{number-lt}
 use Rattle.recoder.specs.Judged.{Admits, Allowed}

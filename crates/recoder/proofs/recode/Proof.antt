@@ -1,7 +1,7 @@
 -- `recoder::recode` meets its contract: a refusal leaves both buffers, and on acceptance their first places and words are written. Assumes nothing.
-use mathlib.Core.Path.{_≡_, refl, sym, ap, subst, _∙_}
-use mathlib.Core.List.{List, _++_}
-use Prim.Native.Nat.{ℕ, _+_, _*_}
+use mathlib.Core.Path.{refl, sym, ap, subst}
+use mathlib.Core.List.{_++_}
+use Prim.Native.Nat.{_+_}
 use native.Mathlib.Omega.{arith}
 use borrow.Author.Needs.{needs}
 use lib.ListN.{length, drop}
@@ -9,8 +9,7 @@ use lib.Seq.{length-take-le}
 use denote.Ref.{now}
 use Rattle.meaning.specs.Scalars.{number, bitCount}
 use Rattle.meaning.specs.Forms.{Form}
-use Rattle.recoder.specs.declared.Judged.the-variants.{Goes, Refused}
-use Rattle.recoder.specs.Judged.{Admits, Admitted, Allowed}
+use Rattle.recoder.specs.Judged.{Admits, Admitted}
 use Rattle.recoder.proofs.recode.Statement.{statement}
 use Rattle.recoder.proofs.recode.Tie as tie
 

@@ -1,11 +1,10 @@
 -- `recoder::closest::find` meets its contract. Assumes nothing.
 use mathlib.Core.Path.{_≡_, refl, sym, ap, _∙_}
 use mathlib.Core.Logic.{_≢_, ⊎-elim}
-use Prim.Native.Nat.{ℕ, suc, _+_, _-_, _/_, _%_, _^_, _≤_, _<_}
+use Prim.Native.Nat.{_+_, _-_, _/_, _%_, _^_, _<_}
 use native.Mathlib.Omega.{arith}
 use borrow.Author.Needs.{needs, sfits-of}
 use lib.Count.{trailingZeros, trailing-le}
-use lib.IntN.{pos, _-ℤ_}
 use denote.Ref.{now}
 use mir.Facts.{toZ-ofZ}
 use Rattle.laws.proofs.Integers.{sub-none}

@@ -1,5 +1,5 @@
 -- `recoder::marks::one` meets its contract. Assumes nothing.
-use mathlib.Core.Path.{sym, ap}
+use mathlib.Core.Path.{sym}
 use mir.Syntax.{w8}
 use Rattle.laws.proofs.Signed.{bits-none, bits-some}
 use Rattle.forms.proofs.Strings.{nonzero-one, nonzero-none}

@@ -1,6 +1,6 @@
 -- `recoder::marks::weigh` meets its contract. The invariant: the sum so far and the ones of the words left are those of all. Assumes nothing.
 use mathlib.Core.Path.{_≡_}
-use Prim.Native.Nat.{ℕ, _≤_, _*_, _+_, _-_}
+use Prim.Native.Nat.{_≤_, _*_, _+_, _-_}
 use native.Mathlib.Omega.{arith}
 use lib.ListN.{length, getD, drop}
 use lib.Count.{ones, ones-le}

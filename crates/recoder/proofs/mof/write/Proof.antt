@@ -1,6 +1,6 @@
 -- `recoder::mof::write` meets its contract. The invariant: the string is written up to place j, and `under` is the bit under it. Assumes nothing.
 use mathlib.Core.Path.{_≡_, sym, ap, _∙_}
-use Prim.Native.Nat.{_+_, _*_, _-_}
+use Prim.Native.Nat.{_*_, _-_}
 use native.Mathlib.Nat.{div-one}
 use native.Mathlib.Omega.{arith}
 use native.Mathlib.Numerals.{add-one}
@@ -11,7 +11,7 @@ use denote.Ref.{now}
 use mir.Facts.{toZ-ofZ}
 use Rattle.laws.proofs.Stores.{Filled, fill-none, fill-more, fill-exact}
 use Rattle.meaning.specs.Scalars.{number, bitCount, below}
-use Rattle.meaning.specs.Mof.{mof, mofDigit}
+use Rattle.meaning.specs.Mof.{mof}
 use Rattle.forms.proofs.Rest.{below-suc}
 use Rattle.forms.proofs.Mof.{mof-length, mof-at}
 use Rattle.recoder.proofs.mof.write.Statement.{statement}

@@ -1,8 +1,5 @@
 -- `recoder::places::put` meets its contract. Assumes nothing.
-use mathlib.Core.Path.{_∙_, ap}
 use borrow.Author.Needs.{needs}
-use lib.ListN.{set}
-use denote.Ref.{now}
 use mir.Facts.{toZ-ofZ}
 use Rattle.recoder.proofs.places.put.Statement.{statement}
 use Rattle.recoder.proofs.places.put.Tie as tie

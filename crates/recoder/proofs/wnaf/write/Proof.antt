@@ -1,5 +1,5 @@
 -- `recoder::wnaf::write` meets its contract. The invariant: the string is written up to place i, and what is left of it is that of what remains. Assumes nothing.
-use mathlib.Core.Path.{_≡_, sym, ap, _∙_}
+use mathlib.Core.Path.{_∙_}
 use Prim.Native.Nat.{_+_, _-_, _≤_, _<_}
 use native.Mathlib.Omega.{arith}
 use borrow.Author.Needs.{needs, sfits-of}
