@@ -1,0 +1,191 @@
+// From a check number to its digits, its tape and a residue, each step printed: 349 at width 4. examples/check_number.c prints the same.
+ghost use Prim.Native.Nat.{_≤_};
+ghost use lib.ListN.{length};
+use sarvundole::Move;
+use sarvundole::Outcome;
+use sarvundole::Ran;
+use sarvundole::Sign;
+use sarvundole::Step;
+
+const WIDTH: u8 = 4;
+
+const MODULUS: u32 = 1000;
+
+const BASE: u32 = 7;
+
+// ---- printing
+fn text(bytes: &[u8]) {
+    io::write_all(1, bytes);
+}
+
+fn number(n: u64) {
+    io::print_decimal(1, n);
+}
+
+fn refused(refusal: u8, place: u16) {
+    text(b"refused with ");
+    number(refusal as u64);
+    text(b" at place ");
+    number(place as u64);
+    text(b"\n");
+}
+
+fn digit(d: i8) {
+    if d < 0 {
+        text(b" -");
+    } else {
+        text(b" ");
+    }
+    number(width::magnitude(d) as u64);
+}
+
+// The digits under `top`, the highest first.
+fn digits_under(top: usize, digits: &[i8]) {
+    let mut j = top;
+    while 0 < j {
+        j -= 1;
+        if j < digits.len() {
+            digit(digits[j]);
+        }
+    }
+}
+
+fn multiple(m: Move) {
+    number(2 * (m.entry as u64) + 1);
+    text(b"\n");
+}
+
+fn word(w: u16) {
+    match sarvundole::decode(w) {
+        Step::Double => text(b"  double\n"),
+        Step::Load(m) => {
+            let sign = m.sign;
+            match sign {
+                Sign::Plus => text(b"  load "),
+                Sign::Minus => text(b"  load minus "),
+            }
+            multiple(m);
+        }
+        Step::Add(m) => {
+            let sign = m.sign;
+            match sign {
+                Sign::Plus => text(b"  add "),
+                Sign::Minus => text(b"  subtract "),
+            }
+            multiple(m);
+        }
+        Step::Bad => text(b"  bad\n"),
+    }
+}
+
+fn first_words(count: usize, words: &[u16]) {
+    let mut i = 0;
+    while i < count {
+        if i < words.len() {
+            word(words[i]);
+        }
+        i += 1;
+    }
+}
+
+// ---- the steps; each says whether the next can be made
+fn recoded(scalar: &[u8], digits: &mut [i8], marks: &mut [u64]) -> bool {
+    let made = sarvundole::recode(sarvundole::WNAF, WIDTH, scalar, digits, marks);
+    if made.refusal != 0 {
+        refused(made.refusal, made.place);
+        return false;
+    }
+    text(b"digits, highest place first:");
+    digits_under(made.top as usize, digits);
+    text(b"\nweight ");
+    number(made.weight as u64);
+    text(b", top ");
+    number(made.top as u64);
+    text(b"\n");
+    true
+}
+
+fn checked(scalar: &[u8], digits: &[i8]) -> bool {
+    let made = sarvundole::check_nonadjacent(WIDTH, scalar, digits);
+    if made.refusal != 0 {
+        refused(made.refusal, made.place);
+        return false;
+    }
+    text(b"checked: worth the number, and nonzero digits at least ");
+    number(WIDTH as u64);
+    text(b" places apart\n");
+    true
+}
+
+// The count of words, or 0.
+fn taped(digits: &[i8], words: &mut [u16]) -> usize {
+    let made = sarvundole::tape(WIDTH, digits, words);
+    if made.refusal != 0 {
+        refused(made.refusal, made.place);
+        return 0;
+    }
+    text(b"tape of ");
+    number(made.words as u64);
+    text(b" words:\n");
+    first_words(made.words as usize, words);
+    made.words as usize
+}
+
+// The run of the first `count` words.
+fn run(count: usize, words: &[u16], multiples: &mut [u32]) -> Ran
+    requires { ⌜ count ≤ length (now words) ⌝ }
+{
+    sarvundole::run(WIDTH, &words[..count], MODULUS, BASE, multiples)
+}
+
+fn ran(count: usize, words: &[u16], multiples: &mut [u32]) {
+    if words.len() < count {
+        return;
+    }
+    let made = run(count, words, multiples);
+    let outcome = made.outcome;
+    match outcome {
+        Outcome::Refused(why) => refused(why.number, why.place),
+        Outcome::Residue(residue) => {
+            number(made.doublings as u64);
+            text(b" doublings, ");
+            number(made.additions as u64);
+            text(b" additions, and ");
+            number(made.cost as u64);
+            text(b" for the multiples\nresidue ");
+            number(residue as u64);
+            text(b" of the number times ");
+            number(BASE as u64);
+            text(b" modulo ");
+            number(MODULUS as u64);
+            text(b"\n");
+        }
+    }
+}
+
+fn walk(
+    scalar: &[u8],
+    digits: &mut [i8],
+    marks: &mut [u64],
+    words: &mut [u16],
+    multiples: &mut [u32],
+) {
+    if !recoded(scalar, digits, marks) {
+        return;
+    }
+    if !checked(scalar, digits) {
+        return;
+    }
+    let count = taped(digits, words);
+    ran(count, words, multiples);
+}
+
+// 17 places hold the 16 bits of the number, and 33 words every tape of so many places.
+fn main() {
+    let scalar = [0x01u8, 0x5D];
+    let mut digits = [0i8; 17];
+    let mut marks = [0u64; 9];
+    let mut words = [0u16; 33];
+    let mut multiples = [0u32; 4];
+    walk(&scalar, &mut digits, &mut marks, &mut words, &mut multiples);
+}
