@@ -1,0 +1,204 @@
+/* Makes every call from C, a line of hexadecimal pairs a call, and answers as the trial program does (second.py says how).
+ *
+ * Every buffer stands in a page of its own between two that cannot be touched: first at the page's start, then at its end, so that a step over
+ * either edge ends the program. What is lent for reading cannot be written meanwhile, and the rest of a page must keep its bytes. A buffer of no
+ * elements is a null pointer the first time. The two answers of a line must be one. */
+#define _DEFAULT_SOURCE
+#include "sarvundole.h"
+
+#include <stdio.h>
+#include <stdlib.h>
+#include <string.h>
+#include <sys/mman.h>
+#include <unistd.h>
+
+enum { MOST_LINE = 8192, MOST_ANSWER = 4096, REST = 0xC3 };
+
+static size_t page;
+
+/* ---- lent memory */
+typedef struct {
+    uint8_t *start;
+    uint8_t *lent;
+    size_t bytes;
+    int reading;
+} memory;
+
+static memory scalars, strings, tapes, digits, marks, words, multiples;
+
+static void protect(const memory *m, int how) {
+    if (mprotect(m->start, page, how)) abort();
+}
+
+static void make(memory *m) {
+    uint8_t *all = mmap(NULL, 3 * page, PROT_NONE, MAP_PRIVATE | MAP_ANONYMOUS, -1, 0);
+    if (all == MAP_FAILED) abort();
+    m->start = all + page;
+    protect(m, PROT_READ | PROT_WRITE);
+}
+
+/* Lends so many bytes, at the page's start or its end; filled from `from`, or for writing with `lent`. */
+static void *lend(memory *m, size_t bytes, int at_end, const void *from) {
+    memset(m->start, REST, page);
+    m->lent = m->start + (at_end ? page - bytes : 0);
+    m->bytes = bytes;
+    m->reading = 1;
+    if (bytes > 0) memcpy(m->lent, from, bytes);
+    protect(m, PROT_READ);
+    return bytes == 0 && !at_end ? NULL : m->lent;
+}
+
+static void *lend_to_write(memory *m, size_t count, size_t size, uint64_t lent, int at_end) {
+    memset(m->start, REST, page);
+    m->bytes = count * size;
+    m->lent = m->start + (at_end ? page - m->bytes : 0);
+    m->reading = 0;
+    for (size_t i = 0; i < count; i++) memcpy(m->lent + i * size, &lent, size);
+    return m->bytes == 0 && !at_end ? NULL : m->lent;
+}
+
+static void given_back(memory *m) {
+    if (m->reading) protect(m, PROT_READ | PROT_WRITE);
+    for (uint8_t *at = m->start; at < m->start + page; at++)
+        if ((at < m->lent || at >= m->lent + m->bytes) && *at != REST) {
+            fprintf(stderr, "c_callers: a byte beside what was lent has changed\n");
+            exit(1);
+        }
+}
+
+/* ---- frames and answers */
+static const uint8_t *frame;
+static size_t left;
+
+static uint32_t take(size_t size) {
+    uint32_t n = 0;
+    if (left < size) abort();
+    for (left -= size; size > 0; size--) n = n << 8 | *frame++;
+    return n;
+}
+
+static uint8_t answer[MOST_ANSWER];
+static size_t answered;
+
+static void put(uint64_t n, size_t size) {
+    while (size-- > 0) answer[answered++] = (uint8_t)(n >> 8 * size);
+}
+
+/* A buffer whole, the high byte of each element first. */
+static void put_lent(memory *m, size_t size) {
+    given_back(m);
+    for (size_t i = 0; i < m->bytes; i += size) {
+        uint64_t n = 0;
+        memcpy(&n, m->lent + i, size);
+        put(n, size);
+    }
+}
+
+static void put_tally(sarvundole_tally t) { put(t.refusal, 1), put(t.place, 2), put(t.weight, 2), put(t.top, 2); }
+
+/* ---- calls */
+static void recode(int at_end) {
+    uint8_t form = (uint8_t)take(1), width = (uint8_t)take(1);
+    size_t places = take(2), count = take(1), bytes = left;
+    int8_t *d = lend_to_write(&digits, places, 1, 0x5A, at_end);
+    uint64_t *m = lend_to_write(&marks, count, 8, 0xA5A5A5A5A5A5A5A5u, at_end);
+    put_tally(sarvundole_recode(form, width, lend(&scalars, bytes, at_end, frame), bytes, d, places, m, count));
+    given_back(&scalars);
+    put_lent(&digits, 1);
+    put_lent(&marks, 8);
+}
+
+static void check(int at_end, int nonadjacent) {
+    uint8_t width = (uint8_t)take(1);
+    size_t bytes = take(1), places = left - bytes;
+    const uint8_t *s = lend(&scalars, bytes, at_end, frame);
+    const int8_t *d = lend(&strings, places, at_end, frame + bytes);
+    put_tally((nonadjacent ? sarvundole_check_nonadjacent : sarvundole_check)(width, s, bytes, d, places));
+    given_back(&scalars);
+    given_back(&strings);
+}
+
+static void tape(int at_end) {
+    uint8_t width = (uint8_t)take(1);
+    size_t room = take(2), places = left;
+    uint16_t *w = lend_to_write(&words, room, 2, 0xEEEE, at_end);
+    sarvundole_taped t = sarvundole_tape(width, lend(&strings, places, at_end, frame), places, w, room);
+    put(t.refusal, 1), put(t.place, 2), put(t.words, 2), put(t.doublings, 2), put(t.additions, 2);
+    given_back(&strings);
+    put_lent(&words, 2);
+}
+
+static void run(int at_end) {
+    uint8_t width = (uint8_t)take(1);
+    size_t room = take(2);
+    uint32_t modulus = take(4), base = take(4);
+    uint16_t given[MOST_LINE / 4];
+    size_t count = left / 2;
+    for (size_t i = 0; i < count; i++) given[i] = (uint16_t)take(2);
+    uint32_t *m = lend_to_write(&multiples, room, 4, 0xDEADBEEF, at_end);
+    sarvundole_ran r = sarvundole_run(width, lend(&tapes, 2 * count, at_end, given), count, modulus, base, m, room);
+    put(r.refusal, 1), put(r.place, 2), put(r.residue, 4), put(r.doublings, 2), put(r.additions, 2), put(r.cost, 2);
+    given_back(&tapes);
+    put_lent(&multiples, 4);
+}
+
+static void read_all(int at_end) {
+    uint8_t width = (uint8_t)take(1);
+    size_t calls = take(2), bytes = left;
+    const uint8_t *s = lend(&scalars, bytes, at_end, frame);
+    put(sarvundole_read_at(width, s, bytes, 0).refusal, 1);
+    for (size_t k = 0; k < calls; k++) {
+        sarvundole_reading r = sarvundole_read_at(width, s, bytes, (uint16_t)k);
+        put(r.given, 1), put((uint8_t)r.digit, 1);
+    }
+    given_back(&scalars);
+}
+
+static void search(void) {
+    uint8_t width = (uint8_t)take(1);
+    sarvundole_searched s = sarvundole_search(take(4), width);
+    put(s.refusal, 1), put(s.weight, 1);
+}
+
+static void call(const uint8_t *data, size_t bytes, int at_end) {
+    frame = data;
+    left = bytes;
+    answered = 0;
+    switch (take(1)) {
+    case 1: recode(at_end); break;
+    case 2: check(at_end, 0); break;
+    case 3: check(at_end, 1); break;
+    case 4: tape(at_end); break;
+    case 5: run(at_end); break;
+    case 6: read_all(at_end); break;
+    case 7: search(); break;
+    default: abort();
+    }
+}
+
+int main(void) {
+    static char line[MOST_LINE];
+    static uint8_t data[MOST_LINE / 2], before[MOST_ANSWER];
+    page = (size_t)sysconf(_SC_PAGESIZE);
+    memory *const all[] = {&scalars, &strings, &tapes, &digits, &marks, &words, &multiples};
+    for (size_t i = 0; i < sizeof all / sizeof *all; i++) make(all[i]);
+    while (fgets(line, sizeof line, stdin)) {
+        size_t bytes = strcspn(line, "\n") / 2;
+        for (size_t i = 0; i < bytes; i++) {
+            unsigned byte = 0;
+            sscanf(line + 2 * i, "%2x", &byte);
+            data[i] = (uint8_t)byte;
+        }
+        call(data, bytes, 0);
+        memcpy(before, answer, answered);
+        size_t long_before = answered;
+        call(data, bytes, 1);
+        if (answered != long_before || memcmp(before, answer, answered)) {
+            fprintf(stderr, "c_callers: the place of the buffers changes the answer\n");
+            return 1;
+        }
+        for (size_t i = 0; i < answered; i++) printf("%02X", answer[i]);
+        putchar('\n');
+    }
+    return 0;
+}
