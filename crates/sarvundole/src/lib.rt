@@ -31,7 +31,6 @@ pub use tape::Sign;
 pub use tape::Step;
 pub use tape::Taped;
 pub use tape::decode;
-pub use tape::encode;
 pub use tape::tape;
 pub use width::Known;
 pub use width::Width;
