@@ -1,0 +1,200 @@
+/* Every call of the library against the baseline, in one process and in turn. First the two are held to each other on random input; then each
+ * call is timed at several lengths, a batch of the one and a batch of the other, the first of the two changing each time. Prints how many inputs and
+ * alternations there are, then a line a case: call, width, bytes, the median of library / baseline, and the two medians in nanoseconds. */
+#include "baseline.h"
+
+#include <stdio.h>
+#include <stdlib.h>
+#include <string.h>
+#include <time.h>
+
+enum { INPUTS = 512, TURNS = 101, AGREED = 20000, ROOM_PLACES = 640, ROOM_WORDS = 1100, ROOM_MARKS = 10, ROOM_MULTIPLES = 70 };
+
+/* One call's input and the memory that it is lent. */
+typedef struct {
+    uint8_t form, width;
+    uint8_t scalar[80];
+    size_t bytes, places, words, room, marks_room, multiples_room;
+    uint32_t modulus, base;
+    uint16_t calls;
+    int8_t digits[ROOM_PLACES];
+    uint16_t tape[ROOM_WORDS];
+} input;
+
+typedef struct {
+    int8_t digits[ROOM_PLACES];
+    uint64_t marks[ROOM_MARKS];
+    uint16_t words[ROOM_WORDS];
+    uint32_t multiples[ROOM_MULTIPLES];
+    uint32_t fields[6];
+} output;
+
+/* ---- the calls, each as the library's or as the baseline's */
+typedef void job(const input *in, output *out, int library);
+
+static void tally(output *out, sarvundole_tally t) {
+    out->fields[0] = t.refusal, out->fields[1] = t.place, out->fields[2] = t.weight, out->fields[3] = t.top;
+}
+
+static void recode(const input *in, output *out, int library) {
+    tally(out, (library ? sarvundole_recode : baseline_recode)(in->form, in->width, in->scalar, in->bytes, out->digits, in->places, out->marks,
+                                                               in->marks_room));
+}
+
+static void check(const input *in, output *out, int library) {
+    tally(out, (library ? sarvundole_check : baseline_check)(in->width, in->scalar, in->bytes, in->digits, in->places));
+}
+
+static void check_nonadjacent(const input *in, output *out, int library) {
+    tally(out, (library ? sarvundole_check_nonadjacent : baseline_check_nonadjacent)(in->width, in->scalar, in->bytes, in->digits, in->places));
+}
+
+static void tape(const input *in, output *out, int library) {
+    sarvundole_taped t = (library ? sarvundole_tape : baseline_tape)(in->width, in->digits, in->places, out->words, in->room);
+    out->fields[0] = t.refusal, out->fields[1] = t.place, out->fields[2] = t.words, out->fields[3] = t.doublings, out->fields[4] = t.additions;
+}
+
+static void run(const input *in, output *out, int library) {
+    sarvundole_ran r = (library ? sarvundole_run : baseline_run)(in->width, in->tape, in->words, in->modulus, in->base, out->multiples,
+                                                                 in->multiples_room);
+    out->fields[0] = r.refusal, out->fields[1] = r.place, out->fields[2] = r.residue;
+    out->fields[3] = r.doublings, out->fields[4] = r.additions, out->fields[5] = r.cost;
+}
+
+static void read_at(const input *in, output *out, int library) {
+    sarvundole_reading r = (library ? sarvundole_read_at : baseline_read_at)(in->width, in->scalar, in->bytes, in->calls);
+    out->fields[0] = r.refusal, out->fields[1] = r.given, out->fields[2] = (uint32_t)r.digit;
+}
+
+static void search(const input *in, output *out, int library) {
+    sarvundole_searched r = (library ? sarvundole_search : baseline_search)(in->base, in->width);
+    out->fields[0] = r.refusal, out->fields[1] = r.weight;
+}
+
+/* ---- random input */
+static uint64_t state = 1;
+
+static uint32_t chance(uint32_t below) {
+    state = state * 6364136223846793005u + 1442695040888963407u;
+    return (uint32_t)((state >> 33) % below);
+}
+
+static uint32_t any32(void) { return chance(65536) << 16 | chance(65536); }
+
+/* An input that the calls accept: a random scalar, its string in a form, and that string's tape. */
+static void accepted(input *in, uint8_t form, uint8_t width, size_t bytes) {
+    uint64_t marks[SARVUNDOLE_MARK_WORDS];
+    memset(in, 0, sizeof *in);
+    in->form = form, in->width = width, in->bytes = bytes;
+    for (size_t i = 0; i < bytes; i++) in->scalar[i] = (uint8_t)chance(256);
+    in->places = 8 * bytes + 1, in->room = ROOM_WORDS, in->marks_room = SARVUNDOLE_MARK_WORDS, in->multiples_room = ROOM_MULTIPLES;
+    in->modulus = any32() | 1, in->base = any32(), in->calls = (uint16_t)(8 * bytes);
+    baseline_recode(form, width, in->scalar, bytes, in->digits, in->places, marks, SARVUNDOLE_MARK_WORDS);
+    in->words = baseline_tape(width, in->digits, in->places, in->tape, ROOM_WORDS).words;
+}
+
+/* The same with a fault here and there, so that each refusal comes up. */
+static void any(input *in) {
+    uint8_t form = (uint8_t)(1 + chance(4));
+    accepted(in, form, (uint8_t)(form == 1 ? 2 : 2 + chance(7)), chance(SARVUNDOLE_MOST_BYTES + 1));
+    in->calls = (uint16_t)chance(600);
+    if (!chance(4)) in->base = chance(140);
+    switch (chance(16)) {
+    case 0: in->form = (uint8_t)chance(256); break;
+    case 1: in->width = (uint8_t)chance(11); break;
+    case 2: in->bytes = chance(80); break;
+    case 3: in->places = chance(ROOM_PLACES); break;
+    case 4: in->marks_room = chance(ROOM_MARKS); break;
+    case 5: in->digits[chance((uint32_t)in->places)] = (int8_t)chance(256); break;
+    case 6: in->scalar[chance(66)] ^= (uint8_t)(1 << chance(8)); break;
+    case 7: in->room = chance((uint32_t)in->words + 1); break;
+    case 8: in->modulus = chance(3); break;
+    case 9: in->words = chance(ROOM_WORDS); break;
+    case 10: in->multiples_room = chance(ROOM_MULTIPLES); break;
+    case 11: in->tape[chance((uint32_t)in->words + 1)] = (uint16_t)chance(65536); break;
+    default: break;
+    }
+}
+
+static void agree(const char *name, job *call) {
+    static input in;
+    static output ours, theirs;
+    for (int i = 0; i < AGREED; i++) {
+        any(&in);
+        memset(&ours, 0x5A, sizeof ours);
+        memset(&theirs, 0x5A, sizeof theirs);
+        call(&in, &ours, 1);
+        call(&in, &theirs, 0);
+        if (memcmp(&ours, &theirs, sizeof ours)) {
+            fprintf(stderr, "bench: %s: the library and the baseline differ\n", name);
+            exit(1);
+        }
+    }
+}
+
+/* ---- timing */
+static double now(void) {
+    struct timespec t;
+    clock_gettime(CLOCK_MONOTONIC, &t);
+    return 1e9 * (double)t.tv_sec + (double)t.tv_nsec;
+}
+
+static int rising(const void *a, const void *b) {
+    double x = *(const double *)a, y = *(const double *)b;
+    return (x > y) - (x < y);
+}
+
+static double median(double *xs) {
+    qsort(xs, TURNS, sizeof *xs, rising);
+    return xs[TURNS / 2];
+}
+
+static double batch(job *call, const input *ins, output *out, int library, int times) {
+    double begun = now();
+    for (int t = 0; t < times; t++)
+        for (int i = 0; i < INPUTS; i++) call(&ins[i], out, library);
+    return (now() - begun) / (times * INPUTS);
+}
+
+static void time_one(const char *name, job *call, uint8_t form, uint8_t width, size_t bytes) {
+    static input ins[INPUTS];
+    static output out;
+    double ours[TURNS], theirs[TURNS], ratios[TURNS];
+    for (int i = 0; i < INPUTS; i++) {
+        accepted(&ins[i], form, width, bytes);
+        if (call == search) ins[i].base = (uint32_t)(i % 128);
+    }
+    int times = 1;
+    while (times < 1024 && batch(call, ins, &out, 0, times) * times * INPUTS < 1e5) times *= 2;
+    for (int t = 0; t < TURNS; t++)
+        for (int k = 0; k < 2; k++) {
+            int library = (t + k) % 2;
+            (library ? ours : theirs)[t] = batch(call, ins, &out, library, times);
+        }
+    for (int t = 0; t < TURNS; t++) ratios[t] = ours[t] / theirs[t];
+    double a = median(ours), b = median(theirs);
+    printf("%s\t%d\t%zu\t%.3f\t%.1f\t%.1f\n", name, width, bytes, median(ratios), a, b);
+}
+
+int main(void) {
+    static const struct {
+        const char *name;
+        job *call;
+        uint8_t form, least, most;
+    } calls[] = {
+        {"recode MOF", recode, 1, 2, 2},     {"recode wNAF", recode, 2, 4, 8}, {"recode wMOF", recode, 3, 4, 8},
+        {"recode closest", recode, 4, 4, 8}, {"check", check, 2, 4, 8},        {"check_nonadjacent", check_nonadjacent, 2, 4, 8},
+        {"tape", tape, 2, 4, 8},             {"run", run, 2, 4, 8},            {"read_at", read_at, 3, 4, 8},
+        {"search", search, 2, 2, 3},
+    };
+    static const size_t lengths[] = {8, 16, 32, 48, 66};
+    const size_t count = sizeof calls / sizeof *calls;
+    for (size_t c = 0; c < count; c++) agree(calls[c].name, calls[c].call);
+    printf("%d\t%d\n", INPUTS, TURNS);
+    for (size_t c = 0; c < count; c++)
+        for (int width = calls[c].least; width <= calls[c].most; width += calls[c].call == search ? 1 : 4)
+            for (size_t l = 0; l < sizeof lengths / sizeof *lengths; l++)
+                if (calls[c].call != search || l == 0)
+                    time_one(calls[c].name, calls[c].call, calls[c].form, (uint8_t)width, calls[c].call == search ? 0 : lengths[l]);
+    return 0;
+}
