@@ -79,7 +79,7 @@ cases =
     ∷ []
 
 -- the string of a form, computed
-stringOf : (form w N n : ℕ) → List ℤ
+unfoldable pub stringOf : (form w N n : ℕ) → List ℤ
 stringOf (suc zero) w N n = mof N n
 stringOf (suc (suc zero)) w N n = wnafFrom w (n + 1) N
 stringOf (suc (suc (suc zero))) w N n = wmof w N n
@@ -125,7 +125,7 @@ allowed f w t =
     }
 
 -- what `stringOf` gives has the form
-string-formed : (f w N n : ℕ) → 2 ≤ w → N < 2 ^ n → 1 ≤ f → f ≤ 4 → Form f w N n (stringOf f w N n)
+pub string-formed : (f w N n : ℕ) → 2 ≤ w → N < 2 ^ n → 1 ≤ f → f ≤ 4 → Form f w N n (stringOf f w N n)
 unfolding stringOf
 string-formed zero w N n two small a b = absurd (omega arith)
 string-formed (suc zero) w N n two small a b = is-mof 1 w N n (mof N n) refl refl

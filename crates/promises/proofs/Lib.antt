@@ -3,6 +3,7 @@ pub mod Exactly
 pub mod Rules
 pub mod Recode
 pub mod Known
+pub mod Slips
 pub mod Tape
 pub mod Run
 pub mod Search
