@@ -16,7 +16,8 @@ use lib.Seq.{drop-cons}
 use lib.Pow.{shr-shr}
 use Rattle.laws.proofs.Integers.{parts, diffs, ring, same-left}
 use Rattle.meaning.specs.Digits.{worth}
-use Rattle.judge.specs.Levels.{level, Raised, Stretch, Level, Turned}
+use Rattle.width.specs.Levels.{Raised}
+use Rattle.judge.specs.Levels.{level, Stretch, Level, Turned}
 use Rattle.judge.specs.Tests.{Says}
 use Rattle.judge.specs.declared.Turn.{Turn}
 use Rattle.judge.proofs.Tests.{says}
@@ -43,7 +44,7 @@ stretch-none ds i = record { is = rw add-zero (law (worth (drop i ds))); least =
     law W = rw (parts W) (simp diffs (omega ring))
 
 -- one place more, under the others
-pub stretch-more : (ds : List ℤ) (i m r s : ℕ) → Raised (getD ds i (pos 0)) r → Stretch ds (i + 1) m s → Stretch ds i (suc m) (2 * s + r)
+pub stretch-more : (ds : List ℤ) (i m r s : ℕ) → Raised level (getD ds i (pos 0)) r → Stretch ds (i + 1) m s → Stretch ds i (suc m) (2 * s + r)
 stretch-more ds i m r s d h =
     record {
       is =

@@ -1,6 +1,5 @@
 -- Laws of tests, worth, spacing and refusals that the calls cite.
 pub mod Tests
-pub mod Raises
 pub mod Levels
 pub mod Spaces
 pub mod Rules

@@ -13,12 +13,6 @@ use Rattle.judge.specs.declared.Turn.{Turn}
 abbrev pub level : ℕ
 level = 256
 
--- r is the digit d raised; d is a signed byte, from -128 to 127
-pub record Raised (d : ℤ) (r : ℕ) : Type 0 where
-  pub is : pos r ≡ d +ℤ pos level
-  pub least : 128 ≤ r
-  pub most : r ≤ 383
-
 -- r is what the m places from place i up are worth by themselves, each digit raised: that adds level · (2 ^ m - 1)
 pub record Stretch (ds : List ℤ) (i m r : ℕ) : Type 0 where
   pub is : worth (drop i ds) +ℤ pos (level * 2 ^ m) ≡ pos (r + level) +ℤ pos (2 ^ m) *ℤ worth (drop (i + m) ds)

@@ -8,7 +8,8 @@ ghost use Rattle.meaning.specs.Scalars.{number, mostBytes};
 ghost use Rattle.meaning.specs.Digits.{mostPlaces, worth};
 ghost use Rattle.meaning.specs.Checking.{checkRules, nonadjacentRules, Check};
 ghost use Rattle.judge.specs.Tests.{Says};
-ghost use Rattle.judge.specs.Levels.{Raised, Stretch, Turned};
+ghost use Rattle.width.specs.Levels.{Raised};
+ghost use Rattle.judge.specs.Levels.{level, Stretch, Turned};
 ghost use Rattle.judge.specs.Spaces.{Freed, Spacing};
 use scalar::MOST_BYTES;
 use tape::Found;
@@ -27,18 +28,12 @@ pub struct Verdict {
 // Digits and carries are kept this much above what they are: none is then below nought.
 const LEVEL: u32 = 256;
 
-fn raised(digit: i8) -> u32
-    ensures { λ r. ⌜ Raised digit r ⌝ }
-{
-    ((digit as i32) + (LEVEL as i32)) as u32
-}
-
 // The digit at place i, which is 0 above the string.
 fn digit_at(digits: &[i8], i: usize) -> u32
-    ensures { λ r. ⌜ Raised (getD (now (digits .entry)) i (pos 0)) r ⌝ }
+    ensures { λ r. ⌜ Raised level (getD (now (digits .entry)) i (pos 0)) r ⌝ }
 {
     if i < digits.len() {
-        raised(digits[i])
+        width::raised(digits[i], LEVEL)
     } else {
         LEVEL
     }

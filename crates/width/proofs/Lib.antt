@@ -2,3 +2,4 @@
 pub mod Widths
 pub mod Shifts
 pub mod Sets
+pub mod Raises

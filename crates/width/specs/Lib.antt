@@ -1,2 +1,3 @@
 -- What the contracts of the width type say.
 pub mod Widths
+pub mod Levels

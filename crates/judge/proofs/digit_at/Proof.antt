@@ -7,7 +7,8 @@ use lib.ListN.{List·getD-eq-default}
 use mir.Syntax.{w8}
 use mir.Facts.{toZ-ofZ}
 use denote.Ref.{now}
-use Rattle.judge.specs.Levels.{Raised}
+use Rattle.width.specs.Levels.{Raised}
+use Rattle.judge.specs.Levels.{level}
 use Rattle.judge.proofs.digit_at.Statement.{statement}
 use Rattle.judge.proofs.digit_at.Tie as tie
 
@@ -18,7 +19,7 @@ raised-requires : tie.Need-raised-requires
 raised-requires c κs = search needs
 
 returns : tie.Need-returns
-returns c = subst (λ d. Raised d (c .raised .result)) (toZ-ofZ {w = w8} (record { sfits = c .before .raised-arg .given })) (c .raised .ensures)
+returns c = subst (λ d. Raised level d (c .raised .result)) (toZ-ofZ {w = w8} (record { sfits = c .before .raised-arg .given })) (c .raised .ensures)
 
 returns-2 : tie.Need-returns-2
 returns-2 c =
