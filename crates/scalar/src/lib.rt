@@ -1,6 +1,6 @@
 // Bits of a lent big-endian scalar, read from its bytes where they lie. Above the scalar's bits and under place 0 all bits are zero.
 ghost use mathlib.Core.Path.{_≡_};
-ghost use Prim.Native.Nat.{_*_, _/_, _%_, _^_, _≤_};
+ghost use Prim.Native.Nat.{_+_, _*_, _/_, _%_, _^_, _<_, _≤_};
 ghost use lib.Count.{trailingZeros};
 ghost use lib.ListN.{length};
 ghost use Rattle.meaning.specs.Scalars.{number, bitCount, bit, mostBytes};
@@ -34,14 +34,24 @@ pub fn bit(s: &[u8], j: usize) -> u32
     (byte(s, j / 8) >> (j % 8)) % 2
 }
 
+// Bytes q + 1 and q as one number. One test mostly serves for both.
+fn pair(s: &[u8], q: usize) -> u32
+    requires { ⌜ q + 1 < 2 ^ 64 ⌝ }
+    ensures { λ r. ⌜ r ≡ (number (now (s .entry)) / 2 ^ (8 * (q + 1)) % 256) * 256 + number (now (s .entry)) / 2 ^ (8 * q) % 256 ⌝ }
+{
+    if q + 1 < s.len() {
+        let at = s.len() - 2 - q;
+        return wide(s[at]) * 256 + wide(s[at + 1]);
+    }
+    byte(s, q)
+}
+
 // The `count` bits from place i up. Nine of them lie in two bytes, wherever they start.
 pub fn field(s: &[u8], i: usize, count: u32) -> u32
     requires { ⌜ count ≤ 9 ⌝ }
     ensures { λ r. ⌜ r ≡ number (now (s .entry)) / 2 ^ i % 2 ^ count ⌝ }
 {
-    let q = i / 8;
-    let both = byte(s, q + 1) * 256 + byte(s, q);
-    (both >> (i % 8)) % (1u32 << count)
+    (pair(s, i / 8) >> (i % 8)) % (1u32 << count)
 }
 
 // The w + 1 bits from place i down. Those under place 0 are zeros that come after the field of the others.
