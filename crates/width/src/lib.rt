@@ -1,7 +1,7 @@
 // The width of a recoding, with everything that depends on it alone: the limits of widths, strings and tapes, the digit set, and where its windows start
 // in the table. Every call gets its width from a raw byte by `known` and by nothing else.
 ghost use mathlib.Core.Path.{_≡_};
-ghost use Prim.Native.Nat.{_+_, _-_, _^_, _≤_};
+ghost use Prim.Native.Nat.{_+_, _-_, _^_, _≤_, max};
 ghost use lib.IntN.{natAbs};
 ghost use Rattle.meaning.specs.Digits.{leastWidth, mostWidth, mostPlaces, inSet, largest};
 ghost use Rattle.meaning.specs.Taping.{mostWords};
@@ -75,17 +75,14 @@ impl Width {
         2 * self.entries() + 1
     }
 
-    // Whether `d` is in the digit set.
+    // Whether `d` is in the digit set. Every set has 1, so 0 is tested as 1: a machine then has no branch to guess at each digit that is not 0.
     pub fn holds(self, d: i8) -> bool
         requires { ⌜ Lawful (self .bits) ⌝ }
         ensures { λ r. ⌜ r ≡ inSet (largest (self .bits)) d ⌝ }
     {
         let b = self.bits;
         let half = 1u8 << (b - 1);
-        let size = magnitude(d);
-        if size == 0 {
-            return true;
-        }
+        let size = some(magnitude(d));
         if size % 2 == 1 { size < half } else { false }
     }
 
@@ -107,6 +104,13 @@ pub fn magnitude(d: i8) -> u8
         return (0 - (d as i16)) as u8;
     }
     d as u8
+}
+
+// A size, or 1 for none.
+fn some(size: u8) -> u8
+    ensures { λ r. ⌜ r ≡ max size 1 ⌝ }
+{
+    if size == 0 { 1 } else { size }
 }
 
 // A digit kept `level` above what it is, so that it is not below nought.

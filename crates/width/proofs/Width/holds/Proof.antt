@@ -1,11 +1,11 @@
--- `width::Width::holds` meets its contract: a law for each of its answers, by the digit's size. Assumes nothing.
+-- `width::Width::holds` meets its contract: a law for each of its answers. Assumes nothing.
 use mathlib.Core.Path.{_≡_, ap, _∙_}
 use borrow.Author.Needs.{needs}
 use native.Mathlib.Omega.{arith}
 use lib.Dec.{ltb}
 use lib.IntN.{natAbs}
 use mir.Facts.{toZ-ofZ}
-use Rattle.width.proofs.Sets.{nought, odd, even}
+use Rattle.width.proofs.Sets.{test-odd, test-even}
 use Rattle.width.proofs.Shifts.{one-shifted}
 use Rattle.width.proofs.Width.holds.Statement.{statement}
 use Rattle.width.proofs.Width.holds.Tie as tie
@@ -19,21 +19,21 @@ shl-half c = search needs
 magnitude-requires : tie.Need-magnitude-requires
 magnitude-requires c κs = search needs
 
+some-requires : tie.Need-some-requires
+some-requires c κs = search needs
+
 -- a signed argument goes to a call as its bits
 found : (c : tie.After-magnitude) → c .magnitude .result ≡ natAbs (c .before .args .d)
 found c = c .magnitude .ensures ∙ ap natAbs (toZ-ofZ (c .before .fits .d))
 
 returns : tie.Need-returns
-returns c = nought _ _ _ (found (c .before)) (c .if1 .taken)
+returns c =
+    let s = c .before in
+    ap (ltb (s .some .result)) (one-shifted _ 8 (omega arith))
+    ∙ test-odd _ _ _ (found (s .before)) (s .some .result) (s .some .ensures) (s .before .before .pre .0) (c .if1 .taken)
 
 returns-2 : tie.Need-returns-2
-returns-2 c =
-    ap (ltb (c .before .before .magnitude .result)) (one-shifted _ 8 (omega arith))
-    ∙ odd _ _ _ (found (c .before .before)) (c .before .if1 .left) (c .if2 .taken)
-
-returns-3 : tie.Need-returns-3
-returns-3 c = even _ _ _ (found (c .before .before)) (c .before .if1 .left) (c .if2 .left)
+returns-2 c = let s = c .before in test-even _ _ _ (found (s .before)) (s .some .result) (s .some .ensures) (c .if1 .left)
 
 pub holds-spec : {M : Type 1} → statement M
-holds-spec =
-    tie.close (tie.spec sub-half shl-half magnitude-requires returns returns-2 returns-3)
+holds-spec = tie.close (tie.spec sub-half shl-half magnitude-requires some-requires returns returns-2)
