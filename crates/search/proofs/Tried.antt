@@ -1,98 +1,117 @@
--- What the search has found when the digits of the first sizes were tried at the lowest place: under an even number only 0 can stand, under an odd one each odd digit
--- of the width, with both signs. Assumes nothing.
-use mathlib.Core.Path.{_≡_, subst, sym}
-use mathlib.Core.Logic.{_⊎_, inl, inr}
+-- Whether a string of bounded weight is worth a number: without weight or places only 0 has one; under an even number only 0 can stand; under an odd number each
+-- odd digit of the width leaves a size, and each size in a range is left by one. Assumes nothing.
+use mathlib.Core.Path.{_≡_, refl, ap, subst, sym, _∙_}
+use mathlib.Core.Bool.{Bool, true, false}
 use mathlib.Core.List.{List, [], _∷_}
-use Prim.Native.Nat.{ℕ, suc, _+_, _*_, _/_, _%_, _≤_, _<_, min}
-use native.Mathlib.Decide.{decLt}
+use Prim.Native.Nat.{ℕ, zero, suc, _+_, _-_, _*_, _/_, _%_, _≤_, _<_}
+use native.Mathlib.Decide.{decLe}
 use native.Mathlib.Omega.{arith}
-use lib.IntN.{ℤ, pos, negℤ, natAbs, _+ℤ_, _*ℤ_}
-use lib.ListN.{getD}
-use Rattle.laws.proofs.Integers.{abs-neg}
-use Rattle.meaning.specs.Digits.{inSet, largest, nonzero, weight}
-use Rattle.meaning.specs.Taping.{multiple}
-use Rattle.meaning.specs.Searching.{searchPlaces, Spells}
-use Rattle.search.specs.Least.{nothing, apart, Least}
-use Rattle.search.proofs.Negated.{least-negated}
-use Rattle.search.proofs.Lowest.{nonzero-size, digit-in, digit-sign, put, rest, lowest-parity, lowest-even, lowest-le, above-even, above-plus, above-minus}
-use Rattle.search.proofs.Lightest.{Lightest, lightest-of, lightest-is, lightest-as, Ways, other, first, second, lightest-ways}
+use lib.Dec.{T, eqb, eqb→eq}
+use lib.IntN.{ℤ, pos, negsuc, natAbs, _+ℤ_, _*ℤ_}
+use Rattle.laws.proofs.Choices.{equal}
+use Rattle.laws.proofs.Integers.{parts, diff, diff-is, diffs, ring, abs-is}
+use Rattle.meaning.specs.Digits.{inSet, largest, allIn, worth, nonzero, weight}
+use Rattle.meaning.specs.Searching.{Spells}
+use Rattle.search.specs.Within.{Positive, Light, Within}
+use Rattle.search.proofs.Negated.{light-size}
+use Rattle.search.proofs.Rest.{nonzero-size, digit-in, put, rest, lowest-parity, lowest-even, lowest-le, above-even, above-size}
 
--- the strings that are worth m and whose lowest digit has a size below b
-abbrev Under : (w places m b : ℕ) → List ℤ → Type 0
-Under w places m b ds = Spells w places (pos m) ds × (natAbs (getD ds 0 (pos 0)) < b)
+-- ---- a digit under a string
+light-put : {w places p j k : ℕ} {z y : ℤ} (d : ℤ) → places ≡ suc p → z ≡ d +ℤ pos 2 *ℤ y → T (inSet (largest w) d) → nonzero d + j ≤ k → Light w p y j → Light w places z k
+unfolding weight
+light-put d next sum t h l = record { string = d ∷ l .string; spells = put next sum t (l .spells); weight-le = omega (arith, l .weight-le) }
 
--- the best of them when e odd sizes were tried
-abbrev pub Tried : (w places m e best : ℕ) → Type 0
-Tried w places m e best = Lightest (Under w places m (2 * e)) best
+-- ---- only 0
+-- 0 has a string, of zeros
+light-zero : (w places k : ℕ) → Light w places (pos 0) k
+unfolding inSet allIn worth weight nonzero
+light-zero w zero k = record { string = []; spells = record { length-is = refl; in-set = tt; worth-is = refl }; weight-le = omega arith }
+light-zero w (suc p) k = light-put (pos 0) refl refl tt (omega arith) (light-zero w p k)
 
-pub tried-none : (w places m : ℕ) → Tried w places m 0 nothing
-tried-none w places m = record { most = omega arith; reached = λ h. absurd (omega arith); least = λ ds u. absurd (omega (arith, u .1)) }
+-- a string of no weight is worth 0
+weightless : (ds : List ℤ) → weight ds ≤ 0 → worth ds ≡ pos 0
+unfolding weight worth nonzero
+weightless [] h = refl
+weightless (pos zero ∷ ds) h = ap (λ x. pos 0 +ℤ pos 2 *ℤ x) (weightless ds (omega arith))
+weightless (pos (suc n) ∷ ds) h = absurd (omega arith)
+weightless (negsuc n ∷ ds) h = absurd (omega arith)
 
-module _ (w m : ℕ) {places p : ℕ} (few : places ≤ searchPlaces) (next : places ≡ suc p) where
+-- and so is one of no place
+placeless : (ds : List ℤ) {z : ℤ} {w places : ℕ} → places ≡ 0 → Spells w places z ds → z ≡ pos 0
+unfolding worth
+placeless [] e s = sym (s .worth-is)
+placeless (d ∷ ds) e s = absurd (omega (arith, s .length-is))
+
+module _ (w places k m : ℕ) where
+  only-zero : (Light w places (pos m) k → pos m ≡ pos 0) → Within w places (pos m) k (eqb m 0)
+  only-zero f =
+      record {
+        found = λ e. rw (eqb→eq m 0 (subst T (sym e) tt)) (light-zero w places k);
+        none = λ e l. subst T e (equal m 0 (ap natAbs (f l)));
+      }
+
+  pub within-weightless : k ≡ 0 → Within w places (pos m) k (eqb m 0)
+  within-weightless e = only-zero (λ l. sym (l .spells .worth-is) ∙ weightless (l .string) (omega (arith, l .weight-le)))
+
+  pub within-placeless : places ≡ 0 → Within w places (pos m) k (eqb m 0)
+  within-placeless e = only-zero (λ l. placeless (l .string) e (l .spells))
+
+-- ---- sizes
+-- no size from the first on, of those that an odd digit under m can leave, has a string
+abbrev pub Tried : (w p m odds k first : ℕ) → Type 0
+Tried w p m odds k first = (s : ℕ) → first ≤ s → s < (m + 1) / 2 + odds → Light w p (pos s) k → ⊥
+
+-- one size more
+pub tried-more : (w p m odds k first s : ℕ) → first ≤ s + 1 → Tried w p m odds k first → (Light w p (pos s) k → ⊥) → Tried w p m odds k s
+tried-more w p m odds k first s h t n x low high l = go (decLe first x)
+  where
+    go : Dec (first ≤ x) → ⊥
+    go (yes i) = t x i high l
+    go (no i) = n (subst (λ y. Light w p (pos y) k) (omega arith) l)
+
+module _ (w m : ℕ) {places p : ℕ} (next : places ≡ suc p) where
   -- ---- an even number
-  pub least-even : {r : ℕ} → m % 2 ≡ 0 → Least w p (pos (m / 2)) r → Least w places (pos m) r
+  pub within-even : {k : ℕ} {r : Bool} → m % 2 ≡ 0 → Within w p (pos (m / 2)) k r → Within w places (pos m) k r
   unfolding inSet nonzero weight
-  least-even {r} e l = lightest-is few (record { most = k .most; reached = reached; least = none-lighter })
+  within-even {k} e l =
+      record {
+        found = λ t. light-put (pos 0) next (above-even m e) tt (omega arith) (l .found t);
+        none = λ t x. l .none t (halved (x .string) (x .spells) (x .weight-le));
+      }
     where
-      k : Lightest (Spells w p (pos (m / 2))) r
-      k = lightest-of (omega arith) l
-
-      reached : r < nothing → (ds : List ℤ) × Spells w places (pos m) ds × (weight ds ≡ r)
-      reached h = let (ds, s, q) = k .reached h in (pos 0 ∷ ds, put next (above-even m e) tt s, omega arith)
-
-      none-lighter : (ds : List ℤ) → Spells w places (pos m) ds → r ≤ weight ds
-      none-lighter [] s = absurd (omega (arith, s .length-is))
-      none-lighter (d ∷ ds) s = omega (arith, k .least ds (rest next (above-even m e) (lowest-even s e) s))
+      halved : (ds : List ℤ) → Spells w places (pos m) ds → weight ds ≤ k → Light w p (pos (m / 2)) k
+      halved [] s h = absurd (omega (arith, s .length-is))
+      halved (d ∷ ds) s h = record { string = ds; spells = rest next (above-even m e) (lowest-even s e) s; weight-le = omega arith }
 
   -- ---- an odd number
-  module _ (odd : m % 2 ≡ 1) where
-    -- one odd size more, of which the digit or its negative is the lowest: u and v remain above them
-    module _ (e : ℕ) (fits : multiple e ≤ largest w) (u v : ℤ) (plus : pos m ≡ pos (multiple e) +ℤ pos 2 *ℤ u) (minus : pos m ≡ negℤ (pos (multiple e)) +ℤ pos 2 *ℤ v) where
-      abbrev More : List ℤ → Type 0
-      More ds = Ways (Under w places m (2 * e)) (Spells w p u) (Spells w p v) (pos (multiple e)) (negℤ (pos (multiple e))) ds
+  module _ (odds : ℕ) (has : Positive odds w) (odd : m % 2 ≡ 1) {j k : ℕ} (one : k ≡ suc j) where
+    -- each size is left over an odd digit
+    pub within-found : {s : ℕ} → (m + 1) / 2 - odds ≤ s → s < (m + 1) / 2 + odds → Light w p (pos s) j → Within w places (pos m) k true
+    within-found {s} low high l =
+        let a = abs-is (diff m (2 * s)) in
+        let i = diff-is m (2 * s) in
+        record {
+          found = λ e. light-put (diff m (2 * s)) next (above-size m s)
+              (digit-in (largest w) (diff m (2 * s)) (omega arith) (omega arith))
+              (omega (arith, nonzero-size (diff m (2 * s)) (omega arith))) l;
+          none = λ e. absurd (subst T e tt);
+        }
 
-      more-of : (ds : List ℤ) → Under w places m (2 * (e + 1)) ds → More ds
-      more-of [] (s, h) = absurd (omega (arith, s .length-is))
-      more-of (d ∷ ds) (s, h) = go (decLt (natAbs d) (2 * e))
-        where
-          signed : (d ≡ pos (multiple e)) ⊎ (d ≡ negℤ (pos (multiple e))) → More (d ∷ ds)
-          signed (inl q) = subst (λ x. More (x ∷ ds)) (sym q) (first (rest next plus q s))
-          signed (inr q) = subst (λ x. More (x ∷ ds)) (sym q) (second (rest next minus q s))
-
-          go : Dec (natAbs d < 2 * e) → More (d ∷ ds)
-          go (yes i) = other (s, i)
-          go (no i) = signed (digit-sign d (multiple e) (omega (arith, lowest-parity s)))
-
-      more-is : {ds : List ℤ} → More ds → Under w places m (2 * (e + 1)) ds
-      more-is (other (s, h)) = (s, omega arith)
-      more-is (first s) = (put next plus (digit-in (largest w) (pos (multiple e)) (omega arith) fits) s, omega arith)
-      more-is (second s) =
-          let a = abs-neg (multiple e) in
-          (put next minus (digit-in (largest w) (negℤ (pos (multiple e))) (omega arith) (omega arith)) s, omega arith)
-
-      tried-both : {best a b : ℕ} → Tried w places m e best → Least w p u a → Least w p v b → Tried w places m (e + 1) (min best (min a b + 1))
-      tried-both t x y =
-          lightest-as (λ ds s. more-is s) more-of
-          (lightest-ways (nonzero-size (pos (multiple e)) (omega arith)) (nonzero-size (negℤ (pos (multiple e))) (omega (arith, abs-neg (multiple e)))) t
-          (lightest-of (omega arith) x) (lightest-of (omega arith) y))
-
-    -- a turn: the sizes of what remains above the two digits were searched
-    pub tried-more : (e : ℕ) {best a b : ℕ} → multiple e ≤ largest w → Tried w places m e best
-        → Least w p (pos (apart m (multiple e) / 2)) a → Least w p (pos ((m + multiple e) / 2)) b → Tried w places m (e + 1) (min best (min a b + 1))
-    tried-more e {best} {a} {b} fits t x y = go (above-plus m (multiple e) odd (omega arith))
+    -- and each odd digit leaves one of them
+    pub within-none : Tried w p m odds j ((m + 1) / 2 - odds) → Within w places (pos m) k false
+    unfolding weight worth
+    within-none n = record { found = λ e. absurd (subst T (sym e) tt); none = λ e l. go (l .string) (l .spells) (l .weight-le) }
       where
-        both : {u : ℤ} → pos m ≡ pos (multiple e) +ℤ pos 2 *ℤ u → Least w p u a → Tried w places m (e + 1) (min best (min a b + 1))
-        both {u} plus l = tried-both e fits u (pos ((m + multiple e) / 2)) plus (above-minus m (multiple e) odd (omega arith)) t l y
+        leaves : (d x : ℤ) → d +ℤ pos 2 *ℤ x ≡ pos m → natAbs d ≤ largest w → ((m + 1) / 2 - odds ≤ natAbs x) × (natAbs x < (m + 1) / 2 + odds)
+        leaves d x e h = let q = simp diffs at (rw (parts d, parts x) at e) in omega (ring, abs-is d, abs-is x)
 
-        go : (pos m ≡ pos (multiple e) +ℤ pos 2 *ℤ pos (apart m (multiple e) / 2)) ⊎ (pos m ≡ pos (multiple e) +ℤ pos 2 *ℤ negℤ (pos (apart m (multiple e) / 2)))
-            → Tried w places m (e + 1) (min best (min a b + 1))
-        go (inl q) = both q x
-        go (inr q) = both q (least-negated x)
-
-  -- no other digit can stand there
-  pub tried-all : (odds : ℕ) {best : ℕ} → largest w < 2 * odds → Tried w places m odds best → Least w places (pos m) best
-  tried-all odds {best} h t = lightest-is few (lightest-as (λ ds u. u .0) under t)
-    where
-      under : (ds : List ℤ) → Spells w places (pos m) ds → Under w places m (2 * odds) ds
-      under [] s = absurd (omega (arith, s .length-is))
-      under (d ∷ ds) s = (s, omega (arith, lowest-le s))
+        go : (ds : List ℤ) → Spells w places (pos m) ds → weight ds ≤ k → ⊥
+        go [] s h = absurd (omega (arith, s .length-is))
+        go (d ∷ ds) s h =
+            let (low, high) = leaves d (worth ds) (s .worth-is) (lowest-le s) in
+            n (natAbs (worth ds)) low high
+            (light-size (worth ds) (record {
+              string = ds;
+              spells = rest next (sym (s .worth-is)) refl s;
+              weight-le = omega (arith, nonzero-size d (omega (arith, lowest-parity s)));
+            }))

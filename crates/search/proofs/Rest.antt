@@ -4,13 +4,12 @@ use mathlib.Core.Path.{_≡_, ap, sym, _∙_}
 use mathlib.Core.Logic.{_⊎_, inl, inr}
 use mathlib.Core.Bool.{_&&_}
 use mathlib.Core.List.{List, _∷_}
-use Prim.Native.Nat.{ℕ, suc, _+_, _-_, _*_, _/_, _%_, _≤_, _<_}
-use native.Mathlib.Decide.{decLe}
+use Prim.Native.Nat.{ℕ, suc, _-_, _*_, _/_, _%_, _≤_, _<_}
 use native.Mathlib.Omega.{arith}
 use lib.Dec.{T, eqb, leb, eqb→eq, leb→le, le→leb}
 use lib.Pow.{pow-pos, pow-mono}
-use lib.IntN.{ℤ, pos, negsuc, negℤ, natAbs, _+ℤ_, _*ℤ_}
-use Rattle.laws.proofs.Integers.{parts, diffs, ring, minus, abs-is, abs-zero}
+use lib.IntN.{ℤ, pos, natAbs, _+ℤ_, _*ℤ_}
+use Rattle.laws.proofs.Integers.{parts, diff, diffs, ring, abs-is, abs-zero}
 use Rattle.laws.proofs.Choices.{and-both, and-of, or-either, or-right, equal}
 use Rattle.meaning.specs.Digits.{inSet, largest, allIn, worth, nonzero}
 use Rattle.meaning.specs.Running.{entries}
@@ -18,7 +17,7 @@ use Rattle.meaning.specs.Searching.{Spells}
 use Rattle.forms.proofs.Strings.{nonzero-one}
 use Rattle.width.specs.Widths.{Lawful}
 use Rattle.width.proofs.Shifts.{doubled}
-use Rattle.search.specs.Least.{mostNumber, apart}
+use Rattle.search.specs.Within.{mostNumber, Positive}
 
 -- ---- digits
 -- the digits of a set, told by their size
@@ -43,13 +42,8 @@ digit-in m d o l =
 pub nonzero-size : (d : ℤ) → 0 < natAbs d → nonzero d ≡ 1
 nonzero-size d h = nonzero-one d (λ e. omega (arith, ap natAbs e))
 
--- a size is that of two digits
-pub digit-sign : (d : ℤ) (n : ℕ) → natAbs d ≡ n → (d ≡ pos n) ⊎ (d ≡ negℤ (pos n))
-digit-sign (pos a) n e = inl (ap pos e)
-digit-sign (negsuc a) n e = inr (ap (λ k. negℤ (pos k)) e)
-
 -- two odd digits for each entry of a width, and none is over the largest number that is searched
-pub odds-are : (w : ℕ) → Lawful w → (2 * entries w ≡ largest w + 1) × (largest w ≤ mostNumber)
+pub odds-are : (w : ℕ) → Lawful w → Positive (entries w) w × (largest w ≤ mostNumber)
 odds-are w (l, m) = (omega (arith, doubled w l, pow-pos (w - 1)), omega (arith, pow-mono {i = w - 1} {j = 7} (omega arith)))
 
 -- ---- a digit under a string
@@ -113,15 +107,6 @@ module _ {w places m : ℕ} {d : ℤ} {ds : List ℤ} (s : Spells w places (pos 
 pub above-even : (m : ℕ) → m % 2 ≡ 0 → pos m ≡ pos 0 +ℤ pos 2 *ℤ pos (m / 2)
 above-even m e = ap pos (omega arith)
 
-module _ (m d : ℕ) (odd-m : m % 2 ≡ 1) (odd-d : d % 2 ≡ 1) where
-  -- d under an odd number: half of how far they are apart, or the negative of that
-  pub above-plus : (pos m ≡ pos d +ℤ pos 2 *ℤ pos (apart m d / 2)) ⊎ (pos m ≡ pos d +ℤ pos 2 *ℤ negℤ (pos (apart m d / 2)))
-  above-plus = go (decLe d m)
-    where
-      go : Dec (d ≤ m) → (pos m ≡ pos d +ℤ pos 2 *ℤ pos (apart m d / 2)) ⊎ (pos m ≡ pos d +ℤ pos 2 *ℤ negℤ (pos (apart m d / 2)))
-      go (yes h) = inl (ap pos (omega arith))
-      go (no h) = inr (rw (minus (apart m d / 2)) (simp diffs (omega ring)))
-
-  -- and its negative
-  pub above-minus : pos m ≡ negℤ (pos d) +ℤ pos 2 *ℤ pos ((m + d) / 2)
-  above-minus = rw (minus d) (simp diffs (omega ring))
+-- any s, over the digit that leaves it
+pub above-size : (m s : ℕ) → pos m ≡ diff m (2 * s) +ℤ pos 2 *ℤ pos s
+above-size m s = simp diffs (omega ring)
