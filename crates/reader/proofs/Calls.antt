@@ -3,7 +3,8 @@
 use mathlib.Core.Path.{_≡_, refl, sym, ap, subst, _∙_}
 use mathlib.Core.Logic.{_≢_}
 use mathlib.Core.List.{List, [], _∷_}
-use Prim.Native.Nat.{ℕ, zero, suc, _+_, _≤_}
+use Prim.Native.Nat.{ℕ, zero, suc, _+_, _-_, _≤_}
+use native.Mathlib.Nat.{add-zero, add-suc, sub-zero}
 use native.Mathlib.Omega.{arith}
 use denote.Ref.{RefT, now}
 use lib.IntN.{ℤ}
@@ -20,6 +21,7 @@ use Rattle.reader.specs.declared.Taken.{Taken}
 use Rattle.reader.specs.States.{starting, call, moved, after, After}
 use Rattle.reader.specs.Calls.{readOf, stateOf, readerOf, Made, Called}
 use Rattle.reader.proofs.Starts.{held-lawful, held-short}
+use Rattle.reader.proofs.Takes.{takes-inside}
 use Rattle.reader.proofs.Stands.{given, given-done, size, reads-all}
 
 -- ---- document 01's sequence
@@ -40,6 +42,10 @@ unfolding readAt
 reads-at zero w s h k = reads-all w s (held-lawful w s h) (held-short w s h) k
 reads-at (suc r) w s h k = given-done s (starting (suc r) w s) refl k
 
+-- a state m places lower
+abbrev lowered : State → (m : ℕ) → State
+lowered q m = record { place = q .place - m; width = q .width; pending = q .pending; spot = q .spot; floor = q .floor; refusal = q .refusal }
+
 module _ {w : ℕ} {s : List ℕ} where
   -- a call more
   pub after-call : {k : ℕ} {q : State} → After w s k q → After w s (suc k) (moved q (call s q))
@@ -49,6 +55,14 @@ module _ {w : ℕ} {s : List ℕ} where
   -- what it gives
   pub after-reads : {k : ℕ} {q : State} → After w s k q → readOf (call s q .next) ≡ readAt (sequence (q .refusal) w s) k
   after-reads {k} {q} A = ap (λ x. readOf (call s x .next)) (A .state-is) ∙ reads-at (q .refusal) w s (A .holds) k
+
+  -- m calls more inside a window, which change nothing but the place
+  pub after-lowered : {k : ℕ} {q : State} (m : ℕ) → m ≤ q .place - q .floor → After w s k q → After w s (k + m) (lowered q m)
+  after-lowered zero h A = rw (add-zero, sub-zero) A
+  after-lowered {k} {q} (suc m) h A =
+      let t = takes-inside s (q .place - m) (q .width) (q .pending) (q .spot) (q .floor) (omega arith) in
+      let e : q .place - m - 1 ≡ q .place - suc m = omega arith in
+      rw (add-suc, ← e) (rw (← t) at (after-call (after-lowered m (omega arith) A)))
 
 -- ---- readers
 -- `next` keeps its promise where it takes t and stores it

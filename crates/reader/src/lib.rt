@@ -1,7 +1,7 @@
 // The reader: wMOF of a lent scalar one digit a call, places n down to 0, then done at every later call. `step` does the work on a plain slice and
 // numbers, and a reader's own functions only take it apart. Whoever calls `read_at`, or `start`, `call` and `moved`, needs no walk by hand.
 ghost use mathlib.Core.Path.{_≡_};
-ghost use Prim.Native.Nat.{_-_, _≤_, _<_};
+ghost use Prim.Native.Nat.{_-_, _≤_, _<_, min};
 ghost use Rattle.meaning.specs.Scalars.{number};
 ghost use Rattle.meaning.specs.Digits.{mostPlaces};
 ghost use Rattle.width.specs.Widths.{Lawful};
@@ -107,11 +107,12 @@ fn opening(w: Width, scalar: &[u8], place: usize) -> Taken
     requires { ⌜ (0 < place) × (place ≤ mostPlaces) ⌝ }
     ensures { λ r. ⌜ r ≡ opened (w .bits) (number (now (scalar .entry))) (place - 1) ⌝ }
 {
-    let found = windows::opening::find(w, scalar, place);
-    if found.opens {
+    let bits = scalar::window(scalar, place - 1, w.bits());
+    if windows::opening::opens(w, bits) {
+        let found = windows::opening::placed(w, windows::work_out(w, bits, 0), place);
         return pass(place, found.unit, found.spot, found.left);
     }
-    pass(place, 0, 0, found.left)
+    pass(place, 0, 0, place - 1)
 }
 
 // One call. A state that was made up elsewhere is done where no window can open.
@@ -165,22 +166,42 @@ pub fn moved(state: State, taken: Taken) -> State
     }
 }
 
-// What `Reader::new` and the call of `Reader::next` after `calls` others give, for a caller that holds no reader.
+// How many places of a window are left to pass, at most so many.
+fn held(place: usize, floor: usize, most: u16) -> u16
+    ensures { λ r. ⌜ r ≡ min most (place - floor) ⌝ }
+{
+    if place <= floor {
+        return 0;
+    }
+    let left = place - floor;
+    if left < (most as usize) {
+        left as u16
+    } else {
+        most
+    }
+}
+
+// What `Reader::new` and the call of `Reader::next` after `calls` others give, for a caller that holds no reader. The places that a window still holds
+// are passed at once.
 pub fn read_at(width: u8, scalar: &[u8], calls: u16) -> Reading
     ensures { λ r. ⌜ Answered width (now (scalar .entry)) calls r ⌝ }
 {
     let mut state = start(width, scalar);
     let mut k: u16 = 0;
-    while k < calls {
+    loop {
         let taken = call(scalar, state);
+        if calls <= k {
+            let next = taken.next;
+            return Reading {
+                refusal: state.refusal,
+                next,
+            };
+        }
         state = moved(state, taken);
         k += 1;
-    }
-    let taken = call(scalar, state);
-    let next = taken.next;
-    Reading {
-        refusal: state.refusal,
-        next,
+        let count = held(state.place, state.floor, calls - k);
+        state.place -= count as usize;
+        k += count;
     }
 }
 

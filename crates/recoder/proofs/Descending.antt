@@ -1,107 +1,87 @@
 -- wMOF and the closest form from the top place down: what a turn of their loops does to the string that the rule makes of the buffer. Assumes nothing.
 use mathlib.Core.Path.{_≡_, refl, sym, ap, _∙_}
-use mathlib.Core.Bool.{Bool, true, false, cond}
+use mathlib.Core.Logic.{_≢_}
+use mathlib.Core.Bool.{Bool, true, false}
 use mathlib.Core.List.{List}
-use Prim.Native.Nat.{ℕ, suc, _-_, _<_, _≤_}
+use Prim.Native.Nat.{ℕ, suc, _+_, _-_, _%_, _<_, _≤_}
 use native.Mathlib.Omega.{arith}
 use lib.IntN.{ℤ, pos, _-ℤ_}
-use lib.ListN.{set}
+use lib.ListN.{length, set, replicate, length-replicate}
+use mir.Val.{boolByte}
 use Rattle.laws.proofs.Choices.{true-false}
-use Rattle.meaning.specs.Windows.{oddPart}
-use Rattle.meaning.specs.Wmof.{windowAt, spot}
+use Rattle.laws.proofs.Integers.{sub-none}
 use Rattle.meaning.specs.Scalars.{bit, below}
+use Rattle.meaning.specs.Windows.{windowBits, twos, oddPart}
+use Rattle.meaning.specs.Wmof.{windowAt, spot}
 use Rattle.forms.proofs.Rest.{differ}
-use Rattle.forms.proofs.Ties.{Lowest}
-use Rattle.forms.proofs.Loops.{from, from-done, from-same, from-open, from-last, last-at}
-use Rattle.windows.specs.declared.opening.Opening.{Opening}
-use Rattle.windows.specs.Openings.{Opened}
-use Rattle.windows.proofs.Opened.{opened-at}
-use Rattle.recoder.specs.declared.closest.Found.{Found}
-use Rattle.recoder.specs.Finding.{Finding}
+use Rattle.forms.proofs.Ties.{Lowest, lowest-bit, opens-some}
+use Rattle.forms.proofs.Loops.{from, from-same, from-open, from-last, last-at}
+use Rattle.windows.specs.declared.opening.Place.{Place}
+use Rattle.windows.proofs.Opened.{opened-last, opened-at, leads, Puts}
+use Rattle.recoder.specs.Ties.{Ties}
 
--- ---- wMOF: no window leads with the bit 2
-module _ (w N t i : ℕ) (two : 2 ≤ w) (r : Opening) (O : Opened w N i r) where
-  -- the rule makes the same string of the places that are left
-  pub wmof-turn : (d : List ℤ) → from 2 w N t (suc i) d ≡ from 2 w N t (r .left) (cond (r .opens) (set d (r .spot) (r .unit)) d)
-  wmof-turn d = go (r .opens) refl
-    where
-      go : (b : Bool) → r .opens ≡ b → from 2 w N t (suc i) d ≡ from 2 w N t (r .left) (cond b (set d (r .spot) (r .unit)) d)
-      go false e = let S = O .shut e in from-same 2 w N t two i d (S .same) ∙ ap (λ m. from 2 w N t m d) (sym (S .left-is))
-      go true e =
-          let S = O .opens e in
-          from-open 2 w N t two i d (S .differ) (λ h k. omega arith)
-          ∙ ap (λ m. from 2 w N t m (set d (spot w i (windowAt w N i)) (oddPart w (windowAt w N i)))) (sym (S .left-is))
-          ∙ ap (λ p. from 2 w N t (r .left) (set d p (oddPart w (windowAt w N i)))) (sym (S .spot-is))
-          ∙ ap (λ u. from 2 w N t (r .left) (set d (r .spot) u)) (sym (S .unit-is))
+-- ---- the first turn: as many places are left as a buffer of zeros has
+pub cleared : (b w N t n : ℕ) (z d : List ℤ) → length z ≡ n + 1 → d ≡ replicate (length z) (pos 0)
+    → (length d ≡ n + 1) × (from b w N t (length d) d ≡ from b w N t (n + 1) (replicate (n + 1) (pos 0)))
+cleared b w N t n z d l e =
+    let k = ap length e ∙ length-replicate (length z) (pos 0) ∙ l in
+    (k, ap (λ x. from b w N t x d) k ∙ ap (from b w N t (n + 1)) (e ∙ ap (λ x. replicate x (pos 0)) l))
 
-  -- the digit stands among them
-  pub wmof-spot : r .opens ≡ true → r .spot < suc i
-  wmof-spot e = let S = O .opens e in omega (arith, S .spot-is, opened-at w N i two (S .differ) .under)
+-- ---- a turn with m places left
+module _ (b w N t i m : ℕ) (two : 2 ≤ w) (above : suc i ≡ m) (d : List ℤ) where
+  -- no window: the rule makes the same string of the places under place i
+  pub turn-same : bit N i ≡ below N i → from b w N t m d ≡ from b w N t i d
+  turn-same e = ap (λ x. from b w N t x d) (sym above) ∙ from-same b w N t two i d e
 
-  -- and fewer are left
-  pub wmof-left : r .left < suc i
-  wmof-left = go (r .opens) refl
-    where
-      go : (b : Bool) → r .opens ≡ b → r .left < suc i
-      go false e = omega (arith, O .shut e .left-is)
-      go true e = omega (arith, O .opens e .left-is)
+  -- the digit is put
+  put-is : (v : ℤ) (p : Place) → Puts w i v p → set d (spot w i v) (oddPart w v) ≡ set d (p .spot) (p .unit)
+  put-is v p P = ap (λ x. set d x (oddPart w v)) (sym (P .spot-is)) ∙ ap (set d (p .spot)) (sym (P .unit-is))
 
--- ---- the closest form: at the tie a window leads with 1, is worth one less, and leaves 1 at the lowest set bit
-module _ (w N t i : ℕ) (two : 2 ≤ w) (r : Found) (F : Finding w N i t r) where
-  -- what the two stores of a turn make of the buffer
-  abbrev pub stored : List ℤ → List ℤ
-  stored d = cond (r .last) (set (cond (r .opens) (set d (r .spot) (r .unit)) d) t (pos 1)) (cond (r .opens) (set d (r .spot) (r .unit)) d)
+  -- a window: with its digit the rule makes the same string of the places under it
+  pub turn-open : (p : Place) → Puts w i (windowAt w N i) p → bit N i ≢ below N i → (i ≡ w + t → bit N i ≢ b)
+      → from b w N t m d ≡ from b w N t (p .left) (set d (p .spot) (p .unit))
+  turn-open p P n k =
+      ap (λ x. from b w N t x d) (sym above) ∙ from-open b w N t two i d n k ∙ ap (from b w N t (suc i - w)) (put-is (windowAt w N i) p P)
+      ∙ ap (λ x. from b w N t x (set d (p .spot) (p .unit))) (sym (P .left-is))
 
-  -- the digit's place and value, as the finding has them
-  put-is : (v : ℤ) → r .spot ≡ spot w i v → r .unit ≡ oddPart w v → (d : List ℤ) → set d (spot w i v) (oddPart w v) ≡ set d (r .spot) (r .unit)
-  put-is v e f d = ap (λ p. set d p (oddPart w v)) (sym e) ∙ ap (λ u. set d (r .spot) u) (sym f)
+  -- the window of a tie: it makes the digit of one less, and a 1 at the lowest set bit
+  pub turn-last : (p : Place) → Puts w i (windowAt w N i -ℤ pos 1) p → bit N i ≢ below N i → i ≡ w + t → bit N i ≡ b
+      → from b w N t m d ≡ set (set d (p .spot) (p .unit)) t (pos 1)
+  turn-last p P n e k =
+      ap (λ x. from b w N t x d) (sym above) ∙ from-last b w N t two i d n e k ∙ ap (λ x. set x t (pos 1)) (put-is (windowAt w N i -ℤ pos 1) p P)
 
-  -- the rule makes the same string of the places that are left
-  pub closest-turn : (d : List ℤ) → from 1 w N t (suc i) d ≡ from 1 w N t (r .left) (stored d)
-  closest-turn d = go (r .opens) (r .last) refl refl
-    where
-      go : (a b : Bool) → r .opens ≡ a → r .last ≡ b
-          → from 1 w N t (suc i) d ≡ from 1 w N t (r .left) (cond b (set (cond a (set d (r .spot) (r .unit)) d) t (pos 1)) (cond a (set d (r .spot) (r .unit)) d))
-      go false true e f = absurd (true-false (sym f ∙ F .shut e .goes-on))
-      go false false e f = let S = F .shut e in from-same 1 w N t two i d (S .same) ∙ ap (λ m. from 1 w N t m d) (sym (S .left-is))
-      go true false e f =
-          let S = F .plain e f in
-          let O = S .window in
-          from-open 1 w N t two i d (O .differ) (S .no-tie)
-          ∙ ap (from 1 w N t (suc i - w)) (put-is (windowAt w N i) (O .spot-is) (O .unit-is) d)
-          ∙ ap (λ m. from 1 w N t m (set d (r .spot) (r .unit))) (sym (S .left-is))
-      go true true e f =
-          let S = F .last e f in
-          let O = S .window in
-          from-last 1 w N t two i d (O .differ) (S .tie) (S .leads)
-          ∙ ap (λ x. set x t (pos 1)) (put-is (windowAt w N i -ℤ pos 1) (O .spot-is) (O .unit-is) d)
-          ∙ sym (from-done 1 w N t (set (set d (r .spot) (r .unit)) t (pos 1)))
-          ∙ ap (λ m. from 1 w N t m (set (set d (r .spot) (r .unit)) t (pos 1))) (sym (S .left-is))
+-- ---- the closest form: what the window is worth, one less at a tie
+abbrev pub rounded : (w N i : ℕ) → Bool → ℤ
+rounded w N i r = windowAt w N i -ℤ pos (boolByte r)
 
-  -- the lowest set bit stands among them
-  pub closest-low : r .last ≡ true → t < suc i
-  closest-low f = go (r .opens) refl
-    where
-      go : (a : Bool) → r .opens ≡ a → t < suc i
-      go false e = absurd (true-false (sym f ∙ F .shut e .goes-on))
-      go true e = omega (arith, F .last e f .tie)
+-- with m places left and the lowest set bit at place t, where r says whether window s ties
+pub record Rounds (w N t i m s : ℕ) (r : Bool) : Type 0 where
+  pub odd : boolByte r ≤ s % 2
+  pub over : w ≤ m + twos w (rounded w N i r)
+  pub under : spot w i (rounded w N i r) < m
+  pub plain : r ≡ false → (rounded w N i r ≡ windowAt w N i) × (i ≡ w + t → bit N i ≢ 1)
+  pub last : r ≡ true → (rounded w N i r ≡ windowAt w N i -ℤ pos 1) × (i ≡ w + t) × (bit N i ≡ 1)
 
-  -- and fewer are left
-  pub closest-left : r .left < suc i
-  closest-left = go (r .opens) (r .last) refl refl
-    where
-      go : (a b : Bool) → r .opens ≡ a → r .last ≡ b → r .left < suc i
-      go false b e f = omega (arith, F .shut e .left-is)
-      go true false e f = omega (arith, F .plain e f .left-is)
-      go true true e f = omega (arith, F .last e f .left-is)
-
--- the digit stands among them too; at the tie what remains is + 2 ^ t
-pub closest-spot : (w N t i : ℕ) → 2 ≤ w → (0 < N → Lowest N t) → (r : Found) → Finding w N i t r → r .opens ≡ true → r .spot < suc i
-closest-spot w N t i two low r F e = go (r .last) refl
-  where
-    go : (b : Bool) → r .last ≡ b → r .spot < suc i
-    go false f = let O = F .plain e f .window in omega (arith, O .spot-is, opened-at w N i two (O .differ) .under)
-    go true f =
-        let S = F .last e f in
-        let O = S .window in
-        omega (arith, O .spot-is, last-at 1 w N t two low i (differ (bit N i) (below N i) (omega arith) (omega arith) (O .differ)) (S .tie) .under)
+pub rounds : (w N t i m s : ℕ) → 2 ≤ w → suc i ≡ m → s ≡ windowBits w N i → (0 < N → Lowest N t) → bit N i ≢ below N i → (r : Bool) → Ties w s m t r → Rounds w N t i m s r
+rounds w N t i m s two above seen low n true T =
+    let (e, l) = T .yes refl in
+    let tie : i ≡ w + t = omega arith in
+    let d = differ (bit N i) (below N i) (omega arith) (omega arith) n in
+    let at = last-at 1 w N t two low i d tie in
+    record {
+      odd = omega (arith, ap (λ x. x % 2) (seen ∙ ap (windowBits w N) tie) ∙ opened-last w N t ∙ lowest-bit N t (low (opens-some N i d)));
+      over = omega (arith, at .over);
+      under = omega (arith, at .under);
+      plain = λ h. absurd (true-false h);
+      last = λ h. (refl, tie, sym (leads w N i s two seen) ∙ l);
+    }
+rounds w N t i m s two above seen low n false T =
+    let z = sub-none (windowAt w N i) in
+    let at = opened-at w N i two n in
+    record {
+      odd = omega arith;
+      over = rw z (omega (arith, at .over));
+      under = rw z (omega (arith, at .under));
+      plain = λ h. (z, λ e k. T .no refl (omega arith) (leads w N i s two seen ∙ k));
+      last = λ h. absurd (true-false (sym h));
+    }

@@ -1,19 +1,22 @@
--- Marks as numbers: a word of them place by place from the top, their size, and that the ones counted over all of them are the weight. Assumes nothing.
+-- Marks as numbers: a word of them place by place from the top, their size, what a digit that is put does to them, and that the ones counted over all of them are
+-- the weight. Assumes nothing.
 use mathlib.Core.Path.{_≡_, refl, sym, ap, _∙_}
 use mathlib.Core.List.{List, [], _∷_}
+use mathlib.Core.Logic.{_≢_}
 use Prim.Native.Nat.{ℕ, zero, suc, _+_, _*_, _-_, _/_, _%_, _^_, _<_, _≤_}
 use native.Mathlib.Omega.{arith}
+use native.Mathlib.Decide.{decLt, ℕ-discrete}
 use native.Mathlib.Nat.{pow-succ', zero-add}
 use native.Mathlib.Numerals.{add-one}
 use lib.Count.{ones, ones-step, ones-ones}
 use lib.IntN.{ℤ, pos}
-use lib.ListN.{length, getD, take, drop, drop-of-length-le}
-use lib.Seq.{drop-cons, drop-drop}
+use lib.ListN.{length, getD, set, take, drop, replicate, getD-replicate, length-set, length-drop, drop-of-length-le}
+use lib.Seq.{drop-cons, drop-drop, drop-set-lt, drop-set-add, getD-drop, getD-set-same, getD-set-other, ext-getD}
 use lib.Pow.{pow-pos}
 use Rattle.meaning.specs.Digits.{nonzero, weight, listed}
 use Rattle.meaning.specs.Recoding.{marked, marksOf, markWords}
 use Rattle.forms.proofs.Listed.{listed-length, listed-at}
-use Rattle.forms.proofs.Strings.{nonzero-le}
+use Rattle.forms.proofs.Strings.{nonzero-le, nonzero-none}
 use Rattle.recoder.specs.Ones.{onesOf}
 
 -- ---- a word
@@ -64,6 +67,79 @@ marks-length ds = listed-length (λ q. marked 64 (drop (64 * q) ds)) 0 markWords
 pub marks-at : (ds : List ℤ) (q : ℕ) → q < markWords → getD (marksOf ds) q 0 ≡ marked 64 (drop (64 * q) ds)
 unfolding marksOf
 marks-at ds q h = listed-at (λ q. marked 64 (drop (64 * q) ds)) 0 markWords q 0 h ∙ ap (λ t. marked 64 (drop (64 * t) ds)) (zero-add q)
+
+-- each below 2 ^ 64
+pub marks-lt : (ds : List ℤ) (q : ℕ) → q < markWords → getD (marksOf ds) q 0 < 2 ^ 64
+marks-lt ds q h = rw (marks-at ds q h) (marked-lt 64 (drop (64 * q) ds))
+
+-- no marks where all is 0
+marked-zeros : (k p m : ℕ) → marked k (drop p (replicate m (pos 0))) ≡ 0
+unfolding marked
+marked-zeros zero p m = refl
+marked-zeros (suc k) zero zero = refl
+marked-zeros (suc k) zero (suc m) = omega (arith, nonzero-none {d = pos 0} refl, marked-zeros k zero m)
+marked-zeros (suc k) (suc p) zero = refl
+marked-zeros (suc k) (suc p) (suc m) = marked-zeros (suc k) p m
+
+pub marks-zeros : (m : ℕ) → marksOf (replicate m (pos 0)) ≡ replicate markWords 0
+marks-zeros m =
+    let e = marks-length (replicate m (pos 0)) in
+    ext-getD 0 (marksOf (replicate m (pos 0))) (replicate markWords 0) e
+    (λ q l. marks-at (replicate m (pos 0)) q (omega arith) ∙ marked-zeros 64 (64 * q) m ∙ sym (getD-replicate markWords q 0 0 (omega arith)))
+
+-- ---- a digit is put at place p
+-- among the places of a word: the mark of the digit that stood there is taken off, and that of the new one is added
+marked-put : (k : ℕ) (ds : List ℤ) (p : ℕ) (d : ℤ) → p < length ds → p < k → marked k (set ds p d) + nonzero (getD ds p (pos 0)) * 2 ^ p ≡ marked k ds + nonzero d * 2 ^ p
+unfolding marked
+marked-put zero ds p d h l = absurd (omega arith)
+marked-put (suc k) [] p d h l = absurd (omega arith)
+marked-put (suc k) (x ∷ ds) zero d h l = omega arith
+marked-put (suc k) (x ∷ ds) (suc p) d h l = rw (pow-succ' 2 p) (omega (arith, marked-put k ds p d (omega arith) (omega arith)))
+
+-- above them: nothing changes
+marked-keep : (k : ℕ) (ds : List ℤ) (p : ℕ) (d : ℤ) → k ≤ p → marked k (set ds p d) ≡ marked k ds
+unfolding marked
+marked-keep zero ds p d h = refl
+marked-keep (suc k) [] p d h = refl
+marked-keep (suc k) (x ∷ ds) zero d h = absurd (omega arith)
+marked-keep (suc k) (x ∷ ds) (suc p) d h = ap (λ t. nonzero x + 2 * t) (marked-keep k ds p d (omega arith))
+
+module _ (ds : List ℤ) (p : ℕ) (d : ℤ) where
+  -- word q, where place p is its place j
+  word-at : (q j : ℕ) → p ≡ 64 * q + j → marked 64 (drop (64 * q) (set ds p d)) ≡ marked 64 (set (drop (64 * q) ds) j d)
+  word-at q j e = ap (λ t. marked 64 (drop (64 * q) (set ds t d))) e ∙ ap (marked 64) (drop-set-add (64 * q) ds j d)
+
+  -- the other words
+  word-keep : (q : ℕ) → q ≢ p / 64 → marked 64 (drop (64 * q) (set ds p d)) ≡ marked 64 (drop (64 * q) ds)
+  word-keep q n = go (decLt p (64 * q))
+    where
+      go : Dec (p < 64 * q) → marked 64 (drop (64 * q) (set ds p d)) ≡ marked 64 (drop (64 * q) ds)
+      go (yes l) = ap (marked 64) (drop-set-lt (64 * q) ds p d l)
+      go (no l) = word-at q (p - 64 * q) (omega arith) ∙ marked-keep 64 (drop (64 * q) ds) (p - 64 * q) d (omega arith)
+
+  module _ (there : p < length ds) (most : p < 64 * markWords) where
+    -- the word that marks place p
+    pub word-put : getD (marksOf (set ds p d)) (p / 64) 0 + nonzero (getD ds p (pos 0)) * 2 ^ (p % 64) ≡ getD (marksOf ds) (p / 64) 0 + nonzero d * 2 ^ (p % 64)
+    word-put =
+        let q = p / 64 in
+        let e : p ≡ 64 * q + p % 64 = omega arith in
+        rw (marks-at (set ds p d) q (omega arith), marks-at ds q (omega arith), word-at q (p % 64) e, ap (λ t. getD ds t (pos 0)) e, ← getD-drop (64 * q) ds (p % 64) (pos 0))
+        (marked-put 64 (drop (64 * q) ds) (p % 64) d (omega (arith, length-drop (64 * q) ds)) (omega arith))
+
+    -- with that word the marks are those of the new string
+    pub marks-put : (x : ℕ) → x ≡ getD (marksOf (set ds p d)) (p / 64) 0 → set (marksOf ds) (p / 64) x ≡ marksOf (set ds p d)
+    marks-put x e =
+        let q = p / 64 in
+        let m = marks-length ds in
+        ext-getD 0 (set (marksOf ds) q x) (marksOf (set ds p d)) (length-set (marksOf ds) q x ∙ m ∙ sym (marks-length (set ds p d))) (λ k l. go k (omega (arith, length-set (marksOf ds) q x)) (ℕ-discrete k q))
+      where
+        go : (k : ℕ) → k < markWords → Dec (k ≡ p / 64) → getD (set (marksOf ds) (p / 64) x) k 0 ≡ getD (marksOf (set ds p d)) k 0
+        go k l (yes f) = rw f (getD-set-same (marksOf ds) (p / 64) x 0 (omega (arith, marks-length ds)) ∙ e)
+        go k l (no n) = getD-set-other (marksOf ds) (p / 64) k x 0 n ∙ marks-at ds k l ∙ sym (word-keep k n) ∙ sym (marks-at (set ds p d) k l)
+
+-- the mark of a digit is in its word
+pub mark-in : (ds : List ℤ) (p : ℕ) → p < length ds → p < 64 * markWords → nonzero (getD ds p (pos 0)) * 2 ^ (p % 64) ≤ getD (marksOf ds) (p / 64) 0
+mark-in ds p h l = omega (arith, word-put ds p (pos 0) h l, ap (λ t. t * 2 ^ (p % 64)) (nonzero-none {d = pos 0} refl))
 
 -- ---- the ones counted over the words
 weight-parts : (k : ℕ) (ds : List ℤ) → weight (take k ds) + weight (drop k ds) ≡ weight ds

@@ -1,15 +1,19 @@
--- Strings that loops write place by place: MOF by its bits, wNAF by what remains. Assumes nothing.
-use mathlib.Core.Path.{_≡_, sym, ap, _∙_}
-use Prim.Native.Nat.{ℕ, suc, _+_, _*_, _-_, _%_, _^_, _<_, _≤_}
+-- Strings that loops write from the lowest place up: MOF by its bits, wNAF by what remains. Assumes nothing.
+use mathlib.Core.Path.{_≡_, refl, sym, ap, _∙_}
+use mathlib.Core.List.{List, [], _∷_, _++_, append-assoc, append-nil}
+use Prim.Native.Nat.{ℕ, zero, suc, _+_, _*_, _-_, _%_, _^_, _<_, _≤_}
 use native.Mathlib.Omega.{arith}
-use native.Mathlib.Nat.{sub-zero, one-mul, mod-eq-of-lt, lt-of-le-of-lt}
-use lib.ListN.{length, getD, drop}
-use lib.Seq.{drop-drop, drop-cons}
+use native.Mathlib.Decide.{decLt}
+use native.Mathlib.Nat.{add-zero, sub-zero, one-mul, mod-eq-of-lt, lt-of-le-of-lt}
+use native.Mathlib.Numerals.{add-one}
+use lib.ListN.{length, getD, take, set, replicate, length-set, length-replicate}
+use lib.Seq.{take-all, take-suc-set, set-out, set-getD, getD-set-other}
 use lib.Dec.{lit<}
 use lib.Pow.{pow-mono}
-use lib.IntN.{pos, negsuc, negℤ, _-ℤ_}
+use lib.IntN.{ℤ, pos, negsuc, negℤ, _-ℤ_}
 use Rattle.laws.proofs.Integers.{diffs, ring, minus}
-use Rattle.forms.specs.Wnaf.{wnafDigit, wnafNext, wnafFrom}
+use Rattle.forms.specs.Wnaf.{wnafFrom, remaining, Turn}
+use Rattle.forms.proofs.Turns.{remaining-all, turn-skipped}
 
 -- ---- a difference of two numbers
 pub same-none : (a b : ℕ) → a ≡ b → pos a -ℤ pos b ≡ pos 0
@@ -24,7 +28,6 @@ one-less a b e = rw (minus b) (simp diffs (omega ring))
 pub negated : (a b : ℕ) → a ≤ b → negℤ (pos (b - a)) ≡ pos a -ℤ pos b
 negated a b h = rw (minus (b - a), minus b) (simp diffs (omega ring))
 
--- ---- wNAF from the lowest place up: what is left of the string at place i is that of what remains
 -- ---- a power of two, as a shift makes it
 pub shifted : (w : ℕ) → w ≤ 8 → (1 * 2 ^ w) % 2 ^ 32 ≡ 2 ^ w
 shifted w h = rw (one-mul (2 ^ w)) (mod-eq-of-lt (lt-of-le-of-lt (pow-mono h) (lit< tt)))
@@ -32,22 +35,74 @@ shifted w h = rw (one-mul (2 ^ w)) (mod-eq-of-lt (lt-of-le-of-lt (pow-mono h) (l
 pub widest : (w : ℕ) → w ≤ 8 → 2 ^ w ≤ 256
 widest w h = pow-mono h
 
-pub record Left (w p R₀ i R : ℕ) : Type 0 where
-  pub rest : drop i (wnafFrom w p R₀) ≡ wnafFrom w (p - i) R
+-- ---- wNAF written into zeros: the digits under place i and then those of what remains are the whole string, and from place i up zeros stand.
+-- Place i may lie past the last place: then all digits are under it, and none come after them
+pub record Reached (w p N : ℕ) (d : List ℤ) (i carry skip : ℕ) : Type 0 where
+  pub same-length : length d ≡ p
+  pub whole : take i d ++ wnafFrom w (p - i) (remaining N i carry skip) ≡ wnafFrom w p N
+  pub zeros : (j : ℕ) → i ≤ j → getD d j (pos 0) ≡ pos 0
 
-module _ (w p R₀ : ℕ) where
-  pub left-all : (R : ℕ) → R ≡ R₀ → Left w p R₀ 0 R
-  left-all R e = record { rest = ap (λ t. wnafFrom w t R₀) (sym (sub-zero p)) ∙ ap (λ t. wnafFrom w (p - 0) t) (sym e) }
+zero-at : (n j : ℕ) → getD (replicate n (pos 0)) j (pos 0) ≡ pos 0
+zero-at zero j = refl
+zero-at (suc n) zero = refl
+zero-at (suc n) (suc j) = zero-at n j
 
-  pub left-more : (i R R′ : ℕ) → Left w p R₀ i R → i < p → R′ ≡ wnafNext w R → Left w p R₀ (i + 1) R′
+-- at place 0 all remains
+pub reach-none : (w p N : ℕ) {d : List ℤ} → d ≡ replicate p (pos 0) → Reached w p N d 0 0 0
+reach-none w p N e =
+    record {
+      same-length = ap length e ∙ length-replicate p (pos 0);
+      whole = ap (λ t. wnafFrom w t (remaining N 0 0 0)) (sub-zero p) ∙ ap (wnafFrom w p) (remaining-all N);
+      zeros = λ j h. ap (λ t. getD t j (pos 0)) e ∙ zero-at p j;
+    }
+
+-- past the last place nothing comes after the buffer
+past : (w p i R : ℕ) (d : List ℤ) → length d ≡ p → p ≤ i → take i d ++ wnafFrom w (p - i) R ≡ d
+unfolding wnafFrom
+past w p i R d l h =
+    let e : p - i ≡ 0 = omega arith in
+    ap (λ t. take i d ++ wnafFrom w t R) e ∙ append-nil (take i d) ∙ take-all i d (omega arith)
+
+module _ {w p N : ℕ} where
+  -- so it is the string
+  pub reach-all : {d : List ℤ} {i c s : ℕ} → Reached w p N d i c s → p ≤ i → d ≡ wnafFrom w p N
+  reach-all {d} {i} {c} {s} r h = sym (past w p i (remaining N i c s) d (r .same-length) h) ∙ r .whole
+
+  -- one place more, by the digit of its turn; past the last place the store changes nothing
+  reach-put : {d : List ℤ} {i c s c′ s′ : ℕ} {z : ℤ} → Reached w p N d i c s → Turn w N i (remaining N i c s) c′ s′ z → Reached w p N (set d i z) (i + 1) c′ s′
   unfolding wnafFrom
-  left-more i R R′ l h e =
-      let k : p - i ≡ suc (p - (i + 1)) = omega arith in
-      record { rest = sym (drop-drop 1 i (wnafFrom w p R₀)) ∙ ap (drop 1) (l .rest ∙ ap (λ t. wnafFrom w t R) k) ∙ ap (λ t. wnafFrom w (p - (i + 1)) t) (sym e) }
+  reach-put {d} {i} {c} {s} {c′} {s′} {z} r t =
+      record {
+        same-length = length-set d i z ∙ r .same-length;
+        whole = go (decLt i p) ∙ r .whole;
+        zeros = λ j h. getD-set-other d i j z (pos 0) (λ e. omega arith) ∙ r .zeros j (omega arith);
+      }
+    where
+      go : Dec (i < p) → take (i + 1) (set d i z) ++ wnafFrom w (p - (i + 1)) (remaining N (i + 1) c′ s′) ≡ take i d ++ wnafFrom w (p - i) (remaining N i c s)
+      go (yes h) =
+          let rest = wnafFrom w (p - (i + 1)) (remaining N (i + 1) c′ s′) in
+          let k : p - i ≡ suc (p - (i + 1)) = omega arith in
+          let f : take (i + 1) (set d i z) ≡ take i d ++ (z ∷ []) = rw add-one (take-suc-set d i z (omega (arith, r .same-length))) in
+          let g : z ∷ rest ≡ wnafFrom w (p - i) (remaining N i c s) = cc (t .digit, t .next, ap (λ t. wnafFrom w t (remaining N i c s)) k) in
+          ap (λ t. t ++ rest) f ∙ append-assoc (take i d) (z ∷ []) rest ∙ ap (λ t. take i d ++ t) g
+      go (no h) =
+          let m = r .same-length in
+          past w p (i + 1) (remaining N (i + 1) c′ s′) (set d i z) (length-set d i z ∙ m) (omega arith) ∙ set-out d i z (omega arith) ∙ sym (past w p i (remaining N i c s) d m (omega arith))
 
-  pub left-digit : (i R : ℕ) → Left w p R₀ i R → i < p → i < length (wnafFrom w p R₀) → wnafDigit w R ≡ getD (wnafFrom w p R₀) i (pos 0)
-  unfolding wnafFrom
-  left-digit i R l h m =
-      let k : p - i ≡ suc (p - (i + 1)) = omega arith in
-      let f = sym (l .rest ∙ ap (λ t. wnafFrom w t R) k) ∙ drop-cons (wnafFrom w p R₀) i (pos 0) m in
-      cc
+  -- a digit that is 0 stands there
+  pub reach-pass : {d : List ℤ} {i c s c′ s′ : ℕ} → Reached w p N d i c s → Turn w N i (remaining N i c s) c′ s′ (pos 0) → Reached w p N d (i + 1) c′ s′
+  reach-pass {d} {i} r t = rw (ap (set d i) (sym (r .zeros i (omega arith))) ∙ set-getD d i (pos 0)) at (reach-put r t)
+
+  -- and so do those that are skipped
+  reach-skipped : {d : List ℤ} (i c s : ℕ) → Reached w p N d i c s → Reached w p N d (i + s) c 0
+  reach-skipped i c zero r = rw add-zero r
+  reach-skipped i c (suc s) r =
+      let e : i + 1 + s ≡ i + suc s = omega arith in
+      let k : suc s - 1 ≡ s = omega arith in
+      rw e at (reach-skipped (i + 1) c s (reach-pass r (rw k at (turn-skipped w N i c (suc s) (omega arith)))))
+
+  -- a digit that is not 0, and the zeros after it
+  pub reach-digit : {d d′ : List ℤ} {i c c′ : ℕ} {z : ℤ} → 0 < w → Reached w p N d i c 0 → Turn w N i (remaining N i c 0) c′ (w - 1) z → d′ ≡ set d i z → Reached w p N d′ (i + w) c′ 0
+  reach-digit {i = i} {c′ = c′} h r t e =
+      let k : i + 1 + (w - 1) ≡ i + w = omega arith in
+      rw (e, ← k) (reach-skipped (i + 1) c′ (w - 1) (reach-put r t))

@@ -1,5 +1,5 @@
-pub mod Turned
+pub mod Odds
 pub mod Ones
-pub mod Finding
+pub mod Ties
 pub mod Judged
 pub mod Written

@@ -11,7 +11,7 @@ ghost use Prim.Native.Nat.{_+_, _≤_};
 ghost use lib.ListN.{length};
 ghost use Rattle.meaning.specs.Scalars.{number, bitCount, mostBytes};
 ghost use Rattle.meaning.specs.Forms.{Form};
-ghost use Rattle.meaning.specs.Recoding.{markWords, Recode};
+ghost use Rattle.meaning.specs.Recoding.{markWords, marksOf, Recode};
 ghost use Rattle.recoder.specs.Judged.{Admits, Allowed};
 ghost use Rattle.recoder.specs.Written.{Written};
 use scalar::MOST_BYTES;
@@ -72,26 +72,29 @@ fn judge(form: u8, width: u8, s: &[u8], places: usize, words: usize) -> Judged
     Judged::Goes(w)
 }
 
-// Writes the string of `s` in a form into exactly as many places as it has.
-fn write(form: u8, w: Width, s: &[u8], digits: &mut [i8])
+// Writes the string of `s` in a form into exactly as many places as it has, and marks them.
+fn write(form: u8, w: Width, s: &[u8], digits: &mut [i8], marks: &mut [u64])
     requires { ⌜ Allowed form (w .bits) ⌝ }
     requires { ⌜ length (now s) ≤ mostBytes ⌝ }
     requires { ⌜ length (now digits) ≡ bitCount (now s) + 1 ⌝ }
+    requires { ⌜ length (now marks) ≡ markWords ⌝ }
     ensures { λ _. ⌜ Form form (w .bits) (number (now (s .entry))) (bitCount (now (s .entry))) (now (digits .exit)) ⌝ }
+    ensures { λ _. ⌜ now (marks .exit) ≡ marksOf (now (digits .exit)) ⌝ }
 {
     if form == MOF {
         mof::write(s, digits);
+        marks::write(digits, marks);
         return;
     }
     if form == WNAF {
-        wnaf::write(w.bits(), s, digits);
+        wnaf::write(w.bits(), s, digits, marks);
         return;
     }
     if form == WMOF {
-        wmof::write(w, s, digits);
+        wmof::write(w, s, digits, marks);
         return;
     }
-    closest::write(w, s, digits);
+    closest::write(w, s, digits, marks);
 }
 
 // Writes digits and marks into exactly as many places and words as there are, and counts.
@@ -102,8 +105,7 @@ fn fill(form: u8, w: Width, s: &[u8], digits: &mut [i8], marks: &mut [u64]) -> T
     requires { ⌜ length (now marks) ≡ markWords ⌝ }
     ensures { λ r. ⌜ Written form (w .bits) (now (s .entry)) (now (digits .exit)) (now (marks .exit)) r ⌝ }
 {
-    write(form, w, s, digits);
-    marks::write(digits, marks);
+    write(form, w, s, digits, marks);
     Tally {
         refusal: 0,
         place: 0,

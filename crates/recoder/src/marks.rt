@@ -9,10 +9,10 @@ ghost use Rattle.recoder.specs.Ones.{onesOf};
 // How many words of marks there are, and how many places each of them marks.
 pub const WORDS: usize = 9;
 
-const PLACES: usize = 64;
+pub const PLACES: usize = 64;
 
 // 1 for a digit that is not 0.
-fn one(digit: i8) -> u64
+pub fn one(digit: i8) -> u64
     ensures { λ r. ⌜ r ≡ nonzero digit ⌝ }
 {
     if digit == 0 { 0 } else { 1 }

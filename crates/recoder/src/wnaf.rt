@@ -1,18 +1,19 @@
-// Form 2, wNAF: from the lowest place up, a carry for a digit below nought, and w - 1 zeros after each digit.
+// Form 2, wNAF: from the lowest place up, a carry for a digit below nought, and w - 1 zeros after each digit, which are jumped over.
 ghost use mathlib.Core.Path.{_≡_};
 ghost use Prim.Native.Nat.{_+_, _%_, _^_, _<_, _≤_};
 ghost use lib.IntN.{pos, negℤ};
 ghost use lib.ListN.{length};
 ghost use Rattle.meaning.specs.Scalars.{number, bitCount, mostBytes};
+ghost use Rattle.meaning.specs.Recoding.{markWords, marksOf};
 ghost use Rattle.width.specs.Widths.{Lawful};
-ghost use Rattle.forms.specs.Wnaf.{wnafFrom, remaining};
-ghost use Rattle.recoder.specs.Turned.{Turned, Odd};
+ghost use Rattle.forms.specs.Wnaf.{wnafFrom};
+ghost use Rattle.recoder.specs.Odds.{Odd};
+use crate::places;
 
-// A digit, and what goes on to the next place: a carry, and how many of the next digits are 0.
+// A digit that is not 0, and the carry that goes on.
 struct Place {
     digit: i8,
     carry: u32,
-    skip: u32,
 }
 
 // A size below nought.
@@ -34,56 +35,35 @@ fn odd(w: u32, u: u32) -> Place
         return Place {
             digit: u as i8,
             carry: 0,
-            skip: w - 1,
         };
     }
     Place {
         digit: minus(full - u),
         carry: 1,
-        skip: w - 1,
     }
 }
 
-// The digit at place i.
-fn step(w: u32, s: &[u8], i: usize, carry: u32, skip: u32) -> Place
-    requires { ⌜ Lawful w ⌝ }
-    requires { ⌜ (carry ≤ 1) × (skip < w) ⌝ }
-    ensures { λ r. ⌜ Turned w (number (now (s .entry))) i (remaining (number (now (s .entry))) i carry skip) r ⌝ }
-{
-    if 0 < skip {
-        return Place {
-            digit: 0,
-            carry,
-            skip: skip - 1,
-        };
-    }
-    let u = scalar::field(s, i, w) + carry;
-    if u % 2 == 0 {
-        return Place {
-            digit: 0,
-            carry,
-            skip: 0,
-        };
-    }
-    odd(w, u)
-}
-
-// Writes the string of `s` into exactly as many places as it has.
-pub fn write(w: u32, s: &[u8], digits: &mut [i8])
+// Writes the string of `s` into exactly as many places as it has, and its marks.
+pub fn write(w: u32, s: &[u8], digits: &mut [i8], marks: &mut [u64])
     requires { ⌜ Lawful w ⌝ }
     requires { ⌜ length (now s) ≤ mostBytes ⌝ }
     requires { ⌜ length (now digits) ≡ bitCount (now s) + 1 ⌝ }
+    requires { ⌜ length (now marks) ≡ markWords ⌝ }
     ensures { λ _. ⌜ now (digits .exit) ≡ wnafFrom w (bitCount (now (s .entry)) + 1) (number (now (s .entry))) ⌝ }
+    ensures { λ _. ⌜ now (marks .exit) ≡ marksOf (now (digits .exit)) ⌝ }
 {
+    places::clear(digits, marks);
     let mut carry: u32 = 0;
-    let mut skip: u32 = 0;
     let mut i: usize = 0;
     while i < digits.len() {
-        let place = step(w, s, i, carry, skip);
-        let digit = place.digit;
-        digits[i] = digit;
-        carry = place.carry;
-        skip = place.skip;
-        i += 1;
+        let u = scalar::field(s, i, w) + carry;
+        if u % 2 == 0 {
+            i += 1;
+        } else {
+            let place = odd(w, u);
+            places::put(digits, marks, i, place.digit);
+            carry = place.carry;
+            i += w as usize;
+        }
     }
 }

@@ -2,20 +2,24 @@
 -- where it opens w places above a set bit. Assumes nothing.
 use mathlib.Core.Path.{_≡_, sym, ap, _∙_}
 use mathlib.Core.Logic.{_≢_}
+use mathlib.Core.Bool.{Bool, true, false}
 use Prim.Native.Nat.{ℕ, suc, _+_, _-_, _*_, _/_, _%_, _^_, _≤_, _<_}
 use native.Mathlib.Nat.{mod-lt}
-use native.Mathlib.Decide.{ℕ-discrete}
 use native.Mathlib.Omega.{arith}
 use lib.Dec.{eqb}
-use lib.IntN.{pos}
+use lib.IntN.{ℤ, pos, _-ℤ_}
 use lib.Pow.{pow-pos, shl-shr, shr-shr, mod-mod-pow}
 use Rattle.meaning.specs.Scalars.{bit, below}
-use Rattle.meaning.specs.Windows.{windowBits, leading, second, twos, oddPart, entryUnit, entryTwos}
-use Rattle.meaning.specs.Wmof.{windowAt}
-use Rattle.laws.proofs.Choices.{yes-is, no-is, equal, not-equal}
-use Rattle.forms.proofs.DigitSets.{digit-some}
+use Rattle.meaning.specs.Windows.{windowBits, windowWorth, leading, second, twos, oddPart, entryUnit, entryTwos}
+use Rattle.meaning.specs.Wmof.{windowAt, spot}
+use Rattle.laws.proofs.Choices.{no-is, not-equal}
+use Rattle.laws.proofs.Integers.{sub-none}
 use Rattle.forms.proofs.Rest.{bits-top, bits-next, rest, differ}
 use Rattle.forms.proofs.Wmof.{At, step-at, window-step}
+use Rattle.windows.specs.declared.Window.{Window}
+use Rattle.windows.specs.declared.opening.Place.{Place}
+use Rattle.windows.specs.Openings.{Tells, Placed}
+use Rattle.windows.specs.Parts.{Parts}
 
 -- it has w + 1 bits
 pub opened-lt : (w N i : ℕ) → windowBits w N i < 2 ^ (w + 1)
@@ -46,11 +50,6 @@ module _ (w N i : ℕ) (two : 2 ≤ w) where
   abbrev s : ℕ
   s = windowBits w N i
 
-  -- equal bits
-  entry-none : bit N i ≡ below N i → entryUnit w s ≡ pos 0
-  unfolding entryUnit
-  entry-none e = yes-is (eqb (leading w s) (second w s)) _ _ (equal (leading w s) (second w s) (opened-leading w N i ∙ e ∙ sym (opened-second w N i two)))
-
   -- different bits
   pub entry-some : bit N i ≢ below N i → (entryUnit w s ≡ oddPart w (windowAt w N i)) × (entryTwos w s ≡ twos w (windowAt w N i))
   unfolding entryUnit entryTwos
@@ -58,16 +57,42 @@ module _ (w N i : ℕ) (two : 2 ≤ w) where
       let t = not-equal (leading w s) (second w s) (opened w N i two d) in
       (no-is (eqb (leading w s) (second w s)) _ _ t, no-is (eqb (leading w s) (second w s)) _ _ t)
 
-  -- the digit of such a window is not 0, so an entry of 0 tells equal bits
+  -- what its digit leaves
   pub opened-at : bit N i ≢ below N i → At w i (rest N (suc i)) (windowAt w N i) (rest N (suc i - w))
   opened-at d = step-at w two (window-step w N i (differ (bit N i) (below N i) (omega arith) (omega arith) d))
 
-  pub entry-shut : entryUnit w s ≡ pos 0 → bit N i ≡ below N i
-  entry-shut e = go (ℕ-discrete (bit N i) (below N i))
-    where
-      go : Dec (bit N i ≡ below N i) → bit N i ≡ below N i
-      go (yes h) = h
-      go (no d) = absurd (digit-some (opened-at d .digit) (sym (entry-some d .0) ∙ e))
+-- ---- the window s that is read over place i
+module _ (w N i s : ℕ) (two : 2 ≤ w) (seen : s ≡ windowBits w N i) where
+  -- bit i leads
+  pub leads : leading w s ≡ bit N i
+  leads = ap (λ x. x / 2 ^ w) seen ∙ opened-leading w N i
 
-  pub entry-open : entryUnit w s ≢ pos 0 → bit N i ≢ below N i
-  entry-open n e = n (entry-none e)
+  -- and the bit under it comes second
+  follows : second w s ≡ below N i
+  follows = ap (λ x. x / 2 ^ (w - 1) % 2) seen ∙ opened-second w N i two
+
+  -- so whether the window opens tells whether they are different
+  module _ (r : Bool) (tells : Tells w s r) where
+    pub bits-same : r ≡ false → bit N i ≡ below N i
+    bits-same e = sym leads ∙ tells .no e ∙ follows
+
+    pub bits-differ : r ≡ true → bit N i ≢ below N i
+    bits-differ e d = tells .yes e (leads ∙ d ∙ sym follows)
+
+  -- where they are, its entry gives u and k of what it is worth
+  pub looked : {x : Window} → bit N i ≢ below N i → Parts w (entryUnit w s) (entryTwos w s) x → Parts w (oddPart w (windowAt w N i)) (twos w (windowAt w N i)) x
+  looked d p = let (u, k) = entry-some w N i two d in rw (seen, u, k) at p
+
+  -- and so does what is worked out with nothing less
+  pub worked : {x : Window} → Parts w (oddPart w (windowWorth w s -ℤ pos 0)) (twos w (windowWorth w s -ℤ pos 0)) x → Parts w (oddPart w (windowAt w N i)) (twos w (windowAt w N i)) x
+  worked p = rw (sub-none (windowAt w N i)) at (rw seen at p)
+
+-- ---- the digit of a window that opens at place i and is worth v, its place, and the places left under the window
+pub record Puts (w i : ℕ) (v : ℤ) (p : Place) : Type 0 where
+  pub spot-is : p .spot ≡ spot w i v
+  pub unit-is : p .unit ≡ oddPart w v
+  pub left-is : p .left ≡ suc i - w
+
+-- as they are placed
+pub puts : {w m : ℕ} {x : Window} {p : Place} (i : ℕ) (v : ℤ) → suc i ≡ m → Parts w (oddPart w v) (twos w v) x → Placed w x m p → Puts w i v p
+puts i v e x p = record { spot-is = omega (arith, p .spot-is, x .twos-is); unit-is = p .unit-is ∙ x .unit-is; left-is = omega (arith, p .left-is) }

@@ -16,12 +16,8 @@ use Rattle.windows.specs.Parts.{signed}
 
 -- ---- the two leading bits
 -- a window has one bit more than the width
-double : (w : ℕ) → 2 ^ (w + 1) ≡ 2 * 2 ^ w
+pub double : (w : ℕ) → 2 ^ (w + 1) ≡ 2 * 2 ^ w
 double w = ap (λ t. 2 ^ t) (omega arith) ∙ pow-succ' 2 w
-
--- so its half, rounded up, is at most 2 ^ w
-pub half-under : (w s : ℕ) → s < 2 ^ (w + 1) → (s + 1) / 2 ≤ 2 ^ w
-half-under w s l = omega (arith, double w)
 
 -- a quotient by its bounds
 quotient : (s P q : ℕ) → q * P ≤ s → s < q * P + P → s / P ≡ q
@@ -37,10 +33,6 @@ module _ (w s : ℕ) (two : 2 ≤ w) (l : s < 2 ^ (w + 1)) (d : leading w s ≢ 
       go : leading w s ≡ 0 → Dec (2 ^ (w - 1) ≤ s) → 2 ^ (w - 1) ≤ s
       go z (yes g) = g
       go z (no g) = absurd (d (z ∙ sym (ap (λ t. t % 2) (quotient s (2 ^ (w - 1)) 0 (omega arith) (omega arith)))))
-
-  -- so it is 2 at least
-  pub rise-two : s < 2 ^ w → 2 ≤ s
-  rise-two h = omega (arith, rise-is h .1, pow-mono {i = 1} {j = w - 1} (omega arith))
 
   -- 1 leads, and 0 comes after it
   fall-is : 2 ^ w ≤ s → (leading w s ≡ 1) × (s < 3 * 2 ^ (w - 1))

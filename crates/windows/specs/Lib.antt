@@ -1,4 +1,4 @@
 -- What the contracts of windows say.
 pub mod Parts
-pub mod Tables
+pub mod Reading
 pub mod Openings

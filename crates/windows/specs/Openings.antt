@@ -1,25 +1,19 @@
--- What opens over place i and the places under it. Assumes nothing.
+-- Whether a window opens, and where its digit stands. Assumes nothing.
 use mathlib.Core.Path.{_≡_}
 use mathlib.Core.Logic.{_≢_}
-use mathlib.Core.Bool.{true, false}
-use Prim.Native.Nat.{ℕ, suc, _-_}
-use Rattle.meaning.specs.Scalars.{bit, below}
-use Rattle.meaning.specs.Windows.{oddPart}
-use Rattle.meaning.specs.Wmof.{windowAt, spot}
-use Rattle.windows.specs.declared.opening.Opening.{Opening}
+use mathlib.Core.Bool.{Bool, true, false}
+use Prim.Native.Nat.{ℕ, _+_, _-_}
+use Rattle.meaning.specs.Windows.{leading, second}
+use Rattle.windows.specs.declared.Window.{Window}
+use Rattle.windows.specs.declared.opening.Place.{Place}
 
--- no window: bit i is the bit under it, and one place is passed
-pub record Shut (N i : ℕ) (r : Opening) : Type 0 where
-  pub same : bit N i ≡ below N i
-  pub left-is : r .left ≡ i
+-- whether the two leading bits of window s are different
+pub record Tells (w s : ℕ) (r : Bool) : Type 0 where
+  pub yes : r ≡ true → leading w s ≢ second w s
+  pub no : r ≡ false → leading w s ≡ second w s
 
--- a window: its digit, the digit's place, and the places left under it
-pub record Opens (w N i : ℕ) (r : Opening) : Type 0 where
-  pub differ : bit N i ≢ below N i
-  pub spot-is : r .spot ≡ spot w i (windowAt w N i)
-  pub unit-is : r .unit ≡ oddPart w (windowAt w N i)
-  pub left-is : r .left ≡ suc i - w
-
-pub record Opened (w N i : ℕ) (r : Opening) : Type 0 where
-  pub shut : r .opens ≡ false → Shut N i r
-  pub opens : r .opens ≡ true → Opens w N i r
+-- the digit of a window over m places, its place, and the places left under the window
+pub record Placed (w : ℕ) (x : Window) (m : ℕ) (r : Place) : Type 0 where
+  pub spot-is : r .spot ≡ m + x .twos - w
+  pub unit-is : r .unit ≡ x .unit
+  pub left-is : r .left ≡ m - w

@@ -1,6 +1,6 @@
 // Windows of w + 1 bits: u and k of what a window is worth, looked up in one table of all windows of all widths, or worked out.
 pub mod opening;
-mod table;
+mod rows;
 
 ghost use mathlib.Core.Logic.{_≢_};
 ghost use Prim.Native.Nat.{_+_, _*_, _/_, _%_, _^_, _≤_, _<_};
@@ -9,11 +9,7 @@ ghost use lib.IntN.{pos, _-ℤ_};
 ghost use Rattle.meaning.specs.Digits.{mostWidth};
 ghost use Rattle.meaning.specs.Windows.{leading, second, windowWorth, twos, oddPart, entryUnit, entryTwos};
 ghost use Rattle.width.specs.Widths.{Lawful};
-ghost use Rattle.windows.specs.Parts.{Parts, signed};
-ghost use Rattle.windows.specs.Tables.{Table};
-use crate::table::ENTRIES;
-use crate::table::TWOS;
-use crate::table::UNIT;
+ghost use Rattle.windows.specs.Parts.{Parts, Size, signed};
 use width::Width;
 
 // u and k.
@@ -22,27 +18,13 @@ pub struct Window {
     pub twos: u8,
 }
 
-// The entry of window s, of tables that hold all windows of all widths.
-fn read(units: &[i8; ENTRIES], twos: &[u8; ENTRIES], w: Width, s: u32) -> Window
-    requires { ⌜ Table (now units) (now twos) ⌝ }
-    requires { ⌜ Lawful (w .bits) ⌝ }
-    requires { ⌜ s < 2 ^ (w .bits + 1) ⌝ }
-    ensures { λ r. ⌜ Parts (w .bits) (entryUnit (w .bits) s) (entryTwos (w .bits) s) r ⌝ }
-{
-    let at = w.table_start() + (s as usize);
-    Window {
-        unit: units[at],
-        twos: twos[at],
-    }
-}
-
 // Window s looked up: u and k are 0 where its two leading bits are equal.
 pub fn look_up(w: Width, s: u32) -> Window
     requires { ⌜ Lawful (w .bits) ⌝ }
     requires { ⌜ s < 2 ^ (w .bits + 1) ⌝ }
     ensures { λ r. ⌜ Parts (w .bits) (entryUnit (w .bits) s) (entryTwos (w .bits) s) r ⌝ }
 {
-    read(&UNIT, &TWOS, w, s)
+    rows::read(w.table_start() + (s as usize))
 }
 
 // u and k of the number of a size and a sign.
@@ -60,6 +42,19 @@ fn split(size: u32, minus: bool) -> Window
     }
 }
 
+// The size of what window s is worth less `less`, where `full` is 2 ^ w: half of s rounded up, or how far that lies under `full`.
+fn size(full: u32, s: u32, less: u32) -> u32
+    requires { ⌜ (s < 2 * full) × (full ≤ 2 ^ mostWidth) × (less ≤ s % 2) ⌝ }
+    ensures { λ r. ⌜ Size full s less r ⌝ }
+{
+    let half = (s + 1) / 2;
+    if s < full {
+        half - less
+    } else {
+        full - half + less
+    }
+}
+
 // Window s, whose two leading bits are different, worked out: what it is worth less `less`, which is 0, or 1 at an odd window. With 0 it is the entry of s.
 pub fn work_out(w: Width, s: u32, less: u32) -> Window
     requires { ⌜ Lawful (w .bits) ⌝ }
@@ -69,10 +64,5 @@ pub fn work_out(w: Width, s: u32, less: u32) -> Window
     ensures { λ r. ⌜ Parts (w .bits) (oddPart (w .bits) (windowWorth (w .bits) s -ℤ pos less)) (twos (w .bits) (windowWorth (w .bits) s -ℤ pos less)) r ⌝ }
 {
     let full = 1u32 << w.bits();
-    let half = (s + 1) / 2;
-    if s < full {
-        split(half - less, false)
-    } else {
-        split(full - half + less, true)
-    }
+    split(size(full, s, less), full <= s)
 }

@@ -1,49 +1,45 @@
-// The window that opens over so many places of a scalar, looked up, and where its digit stands.
-ghost use Prim.Native.Nat.{_-_, _≤_, _<_};
+// The window that opens over so many places of a scalar, and where its digit stands.
+ghost use Prim.Native.Nat.{_+_, _-_, _≤_, _<_};
 ghost use mathlib.Core.Path.{_≡_};
-ghost use Rattle.meaning.specs.Scalars.{number};
 ghost use Rattle.meaning.specs.Digits.{mostPlaces};
 ghost use Rattle.width.specs.Widths.{Lawful};
-ghost use Rattle.windows.specs.Openings.{Opened};
+ghost use Rattle.windows.specs.Openings.{Tells, Placed};
+use crate::Window;
 use width::Width;
 
-// Whether a window opens; its digit and the digit's place; and how many places are left under it. Where none opens, one place is passed.
-pub struct Opening {
-    pub opens: bool,
+// A window's digit and its place, and how many places are left under the window.
+pub struct Place {
     pub spot: usize,
     pub unit: i8,
     pub left: usize,
 }
 
 // The places left under a window of `span` places; the last one may have fewer.
-pub fn under(left: usize, span: usize) -> usize
+fn under(left: usize, span: usize) -> usize
     ensures { λ r. ⌜ r ≡ left - span ⌝ }
 {
     if left < span { 0 } else { left - span }
 }
 
-pub fn find(w: Width, s: &[u8], left: usize) -> Opening
+// Whether window s opens: whether its two leading bits are different.
+pub fn opens(w: Width, s: u32) -> bool
     requires { ⌜ Lawful (w .bits) ⌝ }
-    requires { ⌜ (0 < left) × (left ≤ mostPlaces) ⌝ }
-    ensures { λ r. ⌜ Opened (w .bits) (number (now (s .entry))) (left - 1) r ⌝ }
+    ensures { λ r. ⌜ Tells (w .bits) s r ⌝ }
 {
-    let i = left - 1;
-    let window = crate::look_up(w, scalar::window(s, i, w.bits()));
-    let unit = window.unit;
-    if unit == 0 {
-        return Opening {
-            opens: false,
-            spot: i,
-            unit: 0,
-            left: i,
-        };
-    }
+    let width = w.bits();
+    s >> width != (s >> (width - 1)) % 2
+}
+
+// Where the digit of a window over `left` places stands.
+pub fn placed(w: Width, window: Window, left: usize) -> Place
+    requires { ⌜ Lawful (w .bits) ⌝ }
+    requires { ⌜ (left ≤ mostPlaces) × (window .twos < w .bits) × (w .bits ≤ left + window .twos) ⌝ }
+    ensures { λ r. ⌜ Placed (w .bits) window left r ⌝ }
+{
     let span = w.bits() as usize;
-    let twos = window.twos as usize;
-    Opening {
-        opens: true,
-        spot: left + twos - span,
-        unit,
+    Place {
+        spot: left + (window.twos as usize) - span,
+        unit: window.unit,
         left: under(left, span),
     }
 }

@@ -1,27 +1,82 @@
--- `reader::opening` meets its contract: what opens is what `find` says, by the law of a window or that of none. Assumes nothing.
-use mathlib.Core.Path.{_∙_}
-use Prim.Native.Nat.{_-_}
+-- `reader::opening` meets its contract: the two leading bits of the window tell whether it opens, and then it is worked out. Assumes nothing.
+use mathlib.Core.Path.{_≡_, refl, _∙_}
+use mathlib.Core.Logic.{_≢_}
+use Prim.Native.Nat.{suc, _-_}
+use native.Mathlib.Omega.{arith}
 use borrow.Author.Needs.{needs, sfits-of}
 use denote.Ref.{now}
 use mir.Syntax.{w8}
 use mir.Facts.{toZ-ofZ}
-use Rattle.meaning.specs.Scalars.{number}
+use Rattle.meaning.specs.Scalars.{number, bit, below}
+use Rattle.meaning.specs.Windows.{windowBits, twos, oddPart}
+use Rattle.meaning.specs.Wmof.{windowAt}
+use Rattle.windows.specs.Parts.{Parts}
+use Rattle.windows.proofs.Opened.{opened-lt, opened-at, bits-same, bits-differ, worked, puts}
 use Rattle.reader.proofs.Takes.{opened-none, opened-some}
 use Rattle.reader.proofs.opening.Statement.{statement}
 use Rattle.reader.proofs.opening.Tie as tie
 
-find-requires : tie.Need-find-requires
-find-requires c κs = search needs
+-- the bits are those of the window over place - 1
+seen : (c : tie.After-window) → let a = c .before .before .before .args in c .window .result ≡ windowBits (a .w .bits) (number (now (a .scalar))) (a .place - 1)
+seen c = rw (c .before .bits .ensures) at (c .window .ensures)
+
+-- whose two leading bits are different where it opens
+differ : (c : tie.Then1)
+    → let a = c .before .before .before .before .before .args in
+    bit (number (now (a .scalar))) (a .place - 1) ≢ below (number (now (a .scalar))) (a .place - 1)
+differ c =
+    let a = c .before .before .before .before .before .args in
+    let o = c .before in
+    bits-differ (a .w .bits) (number (now (a .scalar))) (a .place - 1) (o .before .window .result) (omega arith) (seen (o .before)) (o .opens .result) (o .opens .ensures) (c .if1 .taken)
+
+-- and which is then worked out
+found : (c : tie.After-work-out)
+    → let a = c .before .before .before .before .before .before .args in
+    let v = windowAt (a .w .bits) (number (now (a .scalar))) (a .place - 1) in
+    Parts (a .w .bits) (oddPart (a .w .bits) v) (twos (a .w .bits) v) (c .work-out .result)
+found c =
+    let a = c .before .before .before .before .before .before .args in
+    let o = c .before .before .before in
+    worked (a .w .bits) (number (now (a .scalar))) (a .place - 1) (o .window .result) (omega arith) (seen o) (c .work-out .ensures)
+
+sub-window : tie.Need-sub-window
+sub-window c = search needs
+
+bits-requires : tie.Need-bits-requires
+bits-requires c κs = search needs
+
+window-requires : tie.Need-window-requires
+window-requires c κs = search needs
+
+opens-requires : tie.Need-opens-requires
+opens-requires c κs = search needs
+
+work-out-requires : tie.Need-work-out-requires
+work-out-requires c κs =
+    let a = c .before .before .before .before .before .args in
+    (omega arith, (rw (seen (c .before .before)) (opened-lt (a .w .bits) (number (now (a .scalar))) (a .place - 1)), (c .before .opens .ensures .yes (c .if1 .taken), omega arith)))
+
+placed-requires : tie.Need-placed-requires
+placed-requires c κs =
+    let a = c .before .before .before .before .before .before .args in
+    let o = opened-at (a .w .bits) (number (now (a .scalar))) (a .place - 1) (omega arith) (differ (c .before)) .over in
+    (omega arith, (omega arith, omega arith, omega (arith, found c .twos-is)))
 
 pass-requires : tie.Need-pass-requires
 pass-requires c κs = search needs
 
 returns : tie.Need-returns
 returns c =
-    let k = c .before .before .before in
-    let a = k .before .before .args in
-    let o = k .find .ensures .opens (c .before .before .if1 .taken) in
-    opened-some (a .w .bits) (number (now (a .scalar))) (a .place - 1) (c .pass .ensures) (o .differ) (toZ-ofZ {w = w8} (sfits-of (c .before .struct-told .given .1 .1 .0 .1)) ∙ o .unit-is) (o .spot-is) (o .left-is)
+    let k = c .before .before in
+    let s = k .before .before .before .before .before .before .before in
+    let a = s .args in
+    let v = windowAt (a .w .bits) (number (now (a .scalar))) (a .place - 1) in
+    let above : suc (a .place - 1) ≡ a .place = omega (arith, s .pre .1) in
+    let P = puts (a .place - 1) v above (found (k .before)) (k .placed .ensures) in
+    opened-some (a .w .bits) (number (now (a .scalar))) (a .place - 1) (c .pass .ensures) (differ (k .before .before)) (toZ-ofZ {w = w8} (sfits-of (c .before .struct-told .given .1 .0 .1)) ∙ P .unit-is) (P .spot-is) (P .left-is)
+
+sub-pass : tie.Need-sub-pass
+sub-pass c = search needs
 
 pass-requires-2 : tie.Need-pass-requires-2
 pass-requires-2 c κs = search needs
@@ -29,9 +84,12 @@ pass-requires-2 c κs = search needs
 returns-2 : tie.Need-returns-2
 returns-2 c =
     let k = c .before .before in
-    let a = k .before .before .args in
-    let o = k .find .ensures .shut (c .before .if1 .left) in
-    opened-none (a .w .bits) (number (now (a .scalar))) (a .place - 1) (c .pass2 .ensures) (o .same) (o .left-is)
+    let a = k .before .before .before .before .args in
+    let N = number (now (a .scalar)) in
+    let same = bits-same (a .w .bits) N (a .place - 1) (k .before .window .result) (omega arith) (seen (k .before)) (k .opens .result) (k .opens .ensures) (c .before .if1 .left) in
+    opened-none (a .w .bits) N (a .place - 1) (c .pass2 .ensures) same refl
 
 pub opening-spec : {M : Type 1} → statement M
-opening-spec = tie.close (tie.spec find-requires pass-requires returns pass-requires-2 returns-2)
+opening-spec =
+    tie.close
+    (tie.spec sub-window bits-requires window-requires opens-requires work-out-requires placed-requires pass-requires returns sub-pass pass-requires-2 returns-2)

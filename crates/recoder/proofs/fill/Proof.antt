@@ -14,7 +14,7 @@ use Rattle.recoder.proofs.fill.Tie as tie
 
 -- the place after the string is written, and the string
 abbrev written : tie.After-top → tie.After-write
-written c = c .before .before .before .before .before .before .before .before .before .before
+written c = c .before .before .before .before .before .before .before
 
 abbrev string : tie.After-write → List ℤ
 string c = c .write .last .1 .1 .1 .0
@@ -25,20 +25,17 @@ size c = omega (arith, c .write .kept .1 .1 .1 .0)
 write-requires : tie.Need-write-requires
 write-requires c κs = search needs
 
-write-requires-2 : tie.Need-write-requires-2
-write-requires-2 c κs = search needs
-
 weigh-requires : tie.Need-weigh-requires
 weigh-requires c κs = search needs
 
-cast-t16 : tie.Need-cast-t16
-cast-t16 c = search needs
+cast-t14 : tie.Need-cast-t14
+cast-t14 c = search needs
 
 top-requires : tie.Need-top-requires
 top-requires c κs = search needs
 
-cast-t20 : tie.Need-cast-t20
-cast-t20 c = omega (arith, c .top .ensures, top-le (string (written c)), size (written c))
+cast-t18 : tie.Need-cast-t18
+cast-t18 c = omega (arith, c .top .ensures, top-le (string (written c)), size (written c))
 
 same-length : tie.Need-same-length
 same-length c = search needs
@@ -49,9 +46,9 @@ same-length-2 c = search needs
 returns : tie.Need-returns
 returns c =
     let p = written c in
-    let m = c .before .before .before .before .before .before .write2 .ensures in
+    let (f, m) = p .write .ensures in
     record {
-      formed = p .write .ensures;
+      formed = f;
       marks-are = m;
       accepted = refl;
       no-place = refl;
@@ -60,4 +57,6 @@ returns c =
     }
 
 pub fill-spec : {M : Type 1} → statement M
-fill-spec = tie.close (tie.spec write-requires write-requires-2 weigh-requires cast-t16 top-requires cast-t20 same-length same-length-2 returns)
+fill-spec =
+    tie.close
+    (tie.spec write-requires weigh-requires cast-t14 top-requires cast-t18 same-length same-length-2 returns)

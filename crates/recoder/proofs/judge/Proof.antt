@@ -1,6 +1,6 @@
 -- `recoder::judge` meets its contract: the rules before the first that applies do not. Assumes nothing.
 use mathlib.Core.Path.{refl}
-use mathlib.Core.Logic.{_⊎_, inl, inr, ⊎-elim}
+use mathlib.Core.Logic.{inl, inr, ⊎-elim}
 use native.Mathlib.Omega.{arith}
 use borrow.Author.Needs.{needs}
 use denote.Ref.{now}

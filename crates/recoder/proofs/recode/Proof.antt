@@ -1,7 +1,6 @@
 -- `recoder::recode` meets its contract: a refusal leaves both buffers, and on acceptance their first places and words are written. Assumes nothing.
 use mathlib.Core.Path.{refl, sym, ap, subst}
 use mathlib.Core.List.{_++_}
-use Prim.Native.Nat.{_+_}
 use native.Mathlib.Omega.{arith}
 use borrow.Author.Needs.{needs}
 use lib.ListN.{length, drop}

@@ -25,14 +25,10 @@ mul-if1 c = omega (arith, full c)
 cast-t6 : tie.Need-cast-t6
 cast-t6 c = sfits-of (omega (arith, full (c .before)))
 
-sub-t7 : tie.Need-sub-t7
-sub-t7 c = search needs
-
 returns : tie.Need-returns
 returns c =
     let l : c .before .args .u < 128 = omega (arith, full (c .before)) in
     record {
-      skips = refl;
       low = λ h. (plain-is w8 (c .before .args .u) l, refl);
       high = λ h. absurd (omega (arith, full (c .before)));
     }
@@ -43,15 +39,11 @@ sub-minus c = omega (arith, full (c .before))
 minus-requires : tie.Need-minus-requires
 minus-requires c κs = omega (arith, full (c .before), pow-pred (c .before .args .w - 1) (omega arith))
 
-sub-t9 : tie.Need-sub-t9
-sub-t9 c = search needs
-
 returns-2 : tie.Need-returns-2
 returns-2 c =
     let s = c .before .before in
     let (e, b, t) = full s in
     record {
-      skips = refl;
       low = λ h. absurd (omega (arith, full s));
       high = λ h. (
         toZ-ofZ (sfits-of (c .minus .ok)) ∙ c .minus .ensures ∙ ap (λ t. negℤ (pos (t - s .args .u))) e ∙ negated (s .args .u) (2 ^ s .args .w) (omega arith),
@@ -60,4 +52,4 @@ returns-2 c =
     }
 
 pub odd-spec : {M : Type 1} → statement M
-odd-spec = tie.close (tie.spec shl-full mul-if1 cast-t6 sub-t7 returns sub-minus minus-requires sub-t9 returns-2)
+odd-spec = tie.close (tie.spec shl-full mul-if1 cast-t6 returns sub-minus minus-requires returns-2)

@@ -1,78 +1,113 @@
--- `recoder::wnaf::write` meets its contract. The invariant: the string is written up to place i, and what is left of it is that of what remains. Assumes nothing.
-use mathlib.Core.Path.{_∙_}
-use Prim.Native.Nat.{_+_, _-_, _≤_, _<_}
+-- `recoder::wnaf::write` meets its contract. The invariant: the string is written up to place i, by what remains there, and the words mark the buffer. Assumes nothing.
+use mathlib.Core.Path.{_≡_, sym, ap, _∙_}
+use Prim.Native.Nat.{_+_, _-_, _/_, _%_, _^_, _≤_}
 use native.Mathlib.Omega.{arith}
+use native.Mathlib.Nat.{mod-lt}
 use borrow.Author.Needs.{needs, sfits-of}
 use lib.IntN.{pos}
-use lib.ListN.{length, length-set}
+use lib.ListN.{length, set, replicate}
+use lib.Pow.{pow-pos}
 use denote.Ref.{now}
 use mir.Facts.{toZ-ofZ}
-use Rattle.laws.proofs.Stores.{Filled, fill-none, fill-more, fill-exact}
 use Rattle.meaning.specs.Scalars.{number, bitCount}
-use Rattle.forms.specs.Wnaf.{wnafFrom, remaining}
-use Rattle.forms.proofs.Wnaf.{wnaf-length}
-use Rattle.forms.proofs.Turns.{remaining-all}
-use Rattle.recoder.proofs.Strings.{Left, left-all, left-more, left-digit}
+use Rattle.meaning.specs.Recoding.{marksOf}
+use Rattle.forms.proofs.Turns.{turn-even, turn-fits}
+use Rattle.recoder.proofs.Strings.{widest, Reached, reach-none, reach-pass, reach-digit, reach-all}
+use Rattle.recoder.proofs.Turns.{odd-turn}
+use Rattle.recoder.proofs.Marking.{marks-length}
 use Rattle.recoder.proofs.wnaf.write.Statement.{statement}
 use Rattle.recoder.proofs.wnaf.write.Tie as tie
 
 abbrev Inv-loop : tie.InvT-loop
-Inv-loop w s digits₀ carry₀ skip₀ i₀ digits carry skip i =
-    Filled (wnafFrom w (bitCount s + 1) (number s)) digits₀ digits i
-    × Left w (bitCount s + 1) (number s) i (remaining (number s) i carry skip)
-    × (carry ≤ 1)
-    × (skip < w)
+Inv-loop w s digits₀ marks₀ carry₀ i₀ digits marks carry i =
+    Reached w (bitCount s + 1) (number s) digits i carry 0 × (marks ≡ marksOf digits) × (carry ≤ 1)
 
 abbrev μ-loop : tie.MeasureT-loop
-μ-loop w s digits₀ carry₀ skip₀ i₀ digits carry skip i = length digits - i
+μ-loop w s digits₀ marks₀ carry₀ i₀ digits marks carry i = length digits - i
+
+-- what the function was called with
+abbrev start : tie.At-loop Inv-loop μ-loop → tie.Start Inv-loop μ-loop
+start l = l .before .before .before .before .before .before .before .before .before
+
+clear-requires : tie.Need-clear-requires Inv-loop μ-loop
+clear-requires c κs = search needs
 
 loop-holds : tie.Need-loop-holds Inv-loop μ-loop
 loop-holds c =
-    let a = c .before .args in
-    let N = number (now (a .s)) in
-    let p = bitCount (now (a .s)) + 1 in
-    (fill-none (wnafFrom (a .w) p N) (now (a .digits)), left-all (a .w) p N (remaining N 0 0 0) (remaining-all N), omega arith, omega arith)
+    let z = c .before .before .before .clear .ensures in
+    let a = c .before .before .before .before .before .before .before .before .args in
+    let m : length (now (a .digits)) ≡ bitCount (now (a .s)) + 1 = omega arith in
+    (reach-none (a .w) (bitCount (now (a .s)) + 1) (number (now (a .s))) (z .0 ∙ ap (λ t. replicate t (pos 0)) m), z .1, omega arith)
 
-step-requires : tie.Need-step-requires Inv-loop μ-loop
-step-requires c κs = search needs
+field-requires : tie.Need-field-requires Inv-loop μ-loop
+field-requires c κs = search needs
 
-slice-set-from-digit : tie.Need-slice-set-from-digit Inv-loop μ-loop
-slice-set-from-digit c = search needs
+add-u : tie.Need-add-u Inv-loop μ-loop
+add-u c =
+    let l = c .before .before in
+    let a = start l .args in
+    omega (arith, c .field .ensures, mod-lt (number (now (a .s)) / 2 ^ l .loop .i) (pow-pos (a .w)), widest (a .w) (omega arith))
 
 add-i : tie.Need-add-i Inv-loop μ-loop
 add-i c = omega arith
 
 loop-less : tie.Need-loop-less Inv-loop μ-loop
-loop-less c = simp length-set (omega arith)
+loop-less c = omega arith
 
 loop-again : tie.Need-loop-again Inv-loop μ-loop
 loop-again c =
-    let a = c .before .before .before .before .before .args in
     let l = c .before .before .before .loop in
-    let w = a .w in
-    let N = number (now (a .s)) in
-    let p = bitCount (now (a .s)) + 1 in
-    let R = remaining N (l .i) (l .carry) (l .skip) in
-    let t = c .before .step .ensures in
-    let m = wnaf-length w (omega arith) p N in
-    let d = toZ-ofZ (sfits-of (c .struct-told .given .0 .1)) ∙ t .turn .digit in (
-      fill-more (wnafFrom w p N) (now (a .digits)) (l .digits) (l .i) _ (pos 0) (l .inv .0) (omega arith) (omega arith) (d ∙ left-digit w p N (l .i) R (l .inv .1) (omega arith) (omega arith)),
-      left-more w p N (l .i) R _ (l .inv .1) (omega arith) (t .turn .next),
-      t .low,
-      t .short,
-    )
+    let a = start (c .before .before .before) .args in
+    let e = rw (c .before .field .ensures) at (c .if1 .taken) in
+    (reach-pass (l .inv .0) (turn-even (a .w) (number (now (a .s))) (l .i) (l .carry) (omega arith) (omega arith) e), l .inv .1, l .inv .2)
+
+odd-requires : tie.Need-odd-requires Inv-loop μ-loop
+odd-requires c κs =
+    let l = c .before .before .before .loop in
+    let a = start (c .before .before .before) .args in
+    let e = c .before .field .ensures in
+    let o : (c .before .field .result + l .carry) % 2 ≡ 1 = omega arith in
+    (omega arith, (rw e (turn-fits (a .w) (number (now (a .s))) (l .i) (l .carry) (omega arith) (omega arith) (rw e at o)), o))
+
+put-requires : tie.Need-put-requires Inv-loop μ-loop
+put-requires c κs =
+    let l = c .before .before .before .before .before .before .before in
+    let m = l .loop .inv .0 .same-length in
+    (omega arith, (omega (arith, start l .pre), l .loop .inv .1))
+
+add-i-2 : tie.Need-add-i-2 Inv-loop μ-loop
+add-i-2 c = omega arith
+
+loop-less-2 : tie.Need-loop-less-2 Inv-loop μ-loop
+loop-less-2 c = omega arith
+
+loop-again-2 : tie.Need-loop-again-2 Inv-loop μ-loop
+loop-again-2 c =
+    let put = c .before .before .before .put in
+    let o = c .before .before .before .before .before .before .before in
+    let f = o .before .before .field in
+    let l = o .before .before .before .before .loop in
+    let s = start (o .before .before .before .before) in
+    let w = s .args .w in
+    let two : 2 ≤ w = omega (arith, s .pre) in
+    let u : (f .result + l .carry) % 2 ≡ 1 = omega (arith, o .before .if1 .left) in
+    let (low, t) = odd-turn w (number (now (s .args .s))) (l .i) (l .carry) (o .odd .result) two (l .inv .2) (rw (f .ensures) at u) (rw (f .ensures) at (o .odd .ensures)) in
+    let d = put .ensures .0 ∙ ap (set (l .digits) (l .i)) (toZ-ofZ (sfits-of (c .before .before .before .before .struct-told .given .0 .1))) in
+    (reach-digit (omega arith) (l .inv .0) t d, put .ensures .1, low)
 
 same-length : tie.Need-same-length Inv-loop μ-loop
-same-length c = c .before .loop .inv .0 .same-length
+same-length c = omega arith
+
+same-length-2 : tie.Need-same-length-2 Inv-loop μ-loop
+same-length-2 c = ap length (c .before .loop .inv .1) ∙ marks-length (c .before .loop .digits) ∙ sym (start (c .before) .pre .1 .1 .1)
 
 returns : tie.Need-returns Inv-loop μ-loop
 returns c =
-    let a = c .before .before .before .args in
     let l = c .before .loop in
-    let N = number (now (a .s)) in
-    let p = bitCount (now (a .s)) + 1 in
-    let m = wnaf-length (a .w) (omega arith) p N in
-    fill-exact (wnafFrom (a .w) p N) (now (a .digits)) (l .digits) (l .i) (l .inv .0) (omega arith) (omega arith)
+    let s = start (c .before) in
+    (reach-all (l .inv .0) (omega (arith, s .pre)), l .inv .1)
 
 pub write-spec : {M : Type 1} → statement M
-write-spec = tie.close (tie.spec Inv-loop μ-loop loop-holds step-requires slice-set-from-digit add-i loop-less loop-again same-length returns)
+write-spec =
+    tie.close
+    (tie.spec Inv-loop μ-loop clear-requires loop-holds field-requires add-u add-i loop-less loop-again odd-requires put-requires add-i-2 loop-less-2 loop-again-2 same-length same-length-2 returns)

@@ -1,10 +1,11 @@
 // All windows of all widths: width w starts at 2 ^ (w + 1) - 8 and has an entry for each s from 0 to 2 ^ (w + 1) - 1. An entry gives u and k of what window s
 // is worth, u * 2 ^ k with u odd; both are 0 where the two leading bits of s are equal.
+ghost use Rattle.table.specs.Tables.{unitOf, twosOf, Table};
 
-pub(crate) const ENTRIES: usize = 1016;
+pub const ENTRIES: usize = 1016;
 
 // u
-pub(crate) const UNIT: [i8; ENTRIES] = [
+const UNIT: [i8; ENTRIES] = [
     // width 2
     0,
     0,
@@ -1031,7 +1032,7 @@ pub(crate) const UNIT: [i8; ENTRIES] = [
 ];
 
 // k
-pub(crate) const TWOS: [u8; ENTRIES] = [
+const TWOS: [i8; ENTRIES] = [
     // width 2
     0,
     0,
@@ -2056,3 +2057,17 @@ pub(crate) const TWOS: [u8; ENTRIES] = [
     0,
     0,
 ];
+
+// u of every entry.
+pub fn units() -> [i8; ENTRIES]
+    ensures { λ r. ⌜ Table unitOf r ⌝ }
+{
+    UNIT
+}
+
+// k of every entry.
+pub fn twos() -> [i8; ENTRIES]
+    ensures { λ r. ⌜ Table twosOf r ⌝ }
+{
+    TWOS
+}

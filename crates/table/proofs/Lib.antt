@@ -1,0 +1,2 @@
+-- Laws of the window table.
+pub mod Entries

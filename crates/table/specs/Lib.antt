@@ -1,0 +1,2 @@
+-- What the contracts of the table say.
+pub mod Tables
