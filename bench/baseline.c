@@ -274,23 +274,19 @@ sarvundole_reading baseline_read_at(uint8_t width, const uint8_t *scalar, size_t
     return r;
 }
 
-/* ---- search: every digit at the lowest place */
-static unsigned least(unsigned w, unsigned places, int rest) {
-    if (!places) return rest ? SARVUNDOLE_MOST_PLACES : 0;
-    if (!(rest & 1)) return least(w, places - 1, rest / 2);
-    unsigned best = SARVUNDOLE_MOST_PLACES;
-    for (int digit = 1; digit < 1 << (w - 1); digit += 2) {
-        unsigned up = least(w, places - 1, (rest - digit) / 2), down = least(w, places - 1, (rest + digit) / 2);
-        unsigned lighter = up < down ? up : down;
-        if (lighter + 1 < best) best = lighter + 1;
-    }
-    return best;
+/* ---- search: every digit at the lowest place, for a string of at most so many nonzero digits */
+static int within(int half, unsigned places, int rest, unsigned weight) {
+    if (!weight || !places) return !rest;
+    if (!(rest & 1)) return within(half, places - 1, rest / 2, weight);
+    for (int digit = 1; digit < half; digit += 2)
+        if (within(half, places - 1, (rest - digit) / 2, weight - 1) || within(half, places - 1, (rest + digit) / 2, weight - 1)) return 1;
+    return 0;
 }
 
 sarvundole_searched baseline_search(uint32_t number, uint8_t width) {
     sarvundole_searched r = {0, 0};
     if (width != 2 && width != 3) r.refusal = 2;
     else if (number > 127) r.refusal = 3;
-    else r.weight = (uint8_t)least(width, 9, (int)number);
+    else while (!within(1 << (width - 1), 9, (int)number, r.weight)) r.weight++;
     return r;
 }
