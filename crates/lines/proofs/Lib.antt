@@ -3,4 +3,3 @@ pub mod Frames
 pub mod Runs
 pub mod Writing
 pub mod Answering
-pub mod Streams

@@ -9,7 +9,6 @@ ghost use Rattle.lines.specs.Answered.{Lent, Filled, Answered};
 
 mod answers;
 mod hexadecimal;
-pub mod stream;
 
 // The most characters of a line, its line feed not counted, and the bytes that they are.
 pub const MOST_CHARACTERS: usize = 144;

@@ -5,9 +5,9 @@ use Prim.Native.Nat.{ℕ, _+_, _-_, _<_, _≤_}
 use native.Mathlib.Omega.{arith}
 use lib.ListN.{length, take, drop, length-drop}
 use lib.Seq.{take-all, take-add}
-use Rattle.lines.specs.declared.stream.Fed.{Fed}
-use Rattle.lines.specs.Streams.{begun, mostKept, Keeps, Feeds}
-use Rattle.lines.proofs.Streams.{begun-append}
+use Rattle.stream.specs.declared.Fed.{Fed}
+use Rattle.stream.specs.Streams.{begun, mostKept, Keeps, Feeds}
+use Rattle.stream.proofs.Streams.{begun-append}
 
 -- what lies before `at` has come
 pub record Pouring (piece line₀ : List ℕ) (kept₀ : ℕ) (line : List ℕ) (at kept : ℕ) : Type 0 where

@@ -3,7 +3,7 @@ use mathlib.Core.Path.{_≡_}
 use mathlib.Core.Bool.{true}
 use mathlib.Core.List.{List}
 use Prim.Native.Nat.{ℕ, _≤_}
-use Rattle.lines.specs.Streams.{begun, mostKept, Keeps}
+use Rattle.stream.specs.Streams.{begun, mostKept, Keeps}
 use Rattle.recode.specs.declared.Turn.{Turn}
 
 -- unless a write failed, the whole piece has come: of the line that has not ended in it the first characters are kept, however long the lines in it were

@@ -2,13 +2,12 @@
 // before the next read, so that whoever sends a frame and waits gets its answer.
 use libc::STDIN_FILENO;
 use libc::STDOUT_FILENO;
-use lines::stream;
 use recoder::marks;
 use width::Width;
 ghost use Prim.Native.Nat.{_≤_};
 ghost use lib.ListN.{length};
 ghost use Rattle.lines.specs.Answered.{Lent};
-ghost use Rattle.lines.specs.Streams.{mostKept};
+ghost use Rattle.stream.specs.Streams.{mostKept};
 ghost use Rattle.recode.specs.Pours.{Pours};
 
 // How much is kept of the line that has not ended, and whether to go on: not past the end of the input, and not past a write that failed.

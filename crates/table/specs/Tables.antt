@@ -1,7 +1,7 @@
 -- The rule of the window table, for all windows of all widths: which window an entry is of, and what it gives. Assumes nothing.
 use mathlib.Core.Path.{_≡_}
 use mathlib.Core.List.{List}
-use Prim.Native.Nat.{ℕ, _+_, _-_, _^_, _<_}
+use Prim.Native.Nat.{ℕ, _+_, _-_, _<_}
 use lib.Count.{leadingZeros}
 use lib.IntN.{ℤ, pos}
 use lib.ListN.{getD}

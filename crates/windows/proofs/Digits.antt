@@ -17,7 +17,7 @@ use Rattle.meaning.specs.Digits.{mostWidth}
 use Rattle.meaning.specs.Windows.{leading, second, windowWorth, twos, shrink, oddPart, entryUnit, entryTwos}
 use Rattle.forms.proofs.Block.{unit-block}
 use Rattle.width.specs.Widths.{Lawful}
-use Rattle.windows.specs.declared.Window.{Window}
+use Rattle.rows.specs.declared.Window.{Window}
 use Rattle.windows.specs.Parts.{Parts, signed}
 use Rattle.windows.proofs.Sizes.{Sized, rise, fall}
 

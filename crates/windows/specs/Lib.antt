@@ -1,4 +1,3 @@
 -- What the contracts of windows say.
 pub mod Parts
-pub mod Reading
 pub mod Openings

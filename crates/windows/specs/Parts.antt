@@ -3,7 +3,7 @@ use mathlib.Core.Path.{_≡_}
 use mathlib.Core.Bool.{Bool, cond}
 use Prim.Native.Nat.{ℕ, _+_, _-_, _/_, _^_, _≤_, _<_}
 use lib.IntN.{ℤ, pos, negℤ, natAbs}
-use Rattle.windows.specs.declared.Window.{Window}
+use Rattle.rows.specs.declared.Window.{Window}
 
 -- r holds u and k at width w: u is below 2 ^ (w - 1) in size, and k below w
 pub record Parts (w : ℕ) (u : ℤ) (k : ℕ) (r : Window) : Type 0 where

@@ -1,6 +1,5 @@
 // Windows of w + 1 bits: u and k of what a window is worth, looked up in one table of all windows of all widths, or worked out.
 pub mod opening;
-mod rows;
 
 ghost use mathlib.Core.Logic.{_≢_};
 ghost use Prim.Native.Nat.{_+_, _*_, _/_, _%_, _^_, _≤_, _<_};
@@ -10,13 +9,8 @@ ghost use Rattle.meaning.specs.Digits.{mostWidth};
 ghost use Rattle.meaning.specs.Windows.{leading, second, windowWorth, twos, oddPart, entryUnit, entryTwos};
 ghost use Rattle.width.specs.Widths.{Lawful};
 ghost use Rattle.windows.specs.Parts.{Parts, Size, signed};
+use rows::Window;
 use width::Width;
-
-// u and k.
-pub struct Window {
-    pub unit: i8,
-    pub twos: u8,
-}
 
 // Window s looked up: u and k are 0 where its two leading bits are equal.
 pub fn look_up(w: Width, s: u32) -> Window

@@ -6,8 +6,8 @@ use lib.ListN.{length}
 use lib.Seq.{length-take-le, take-all}
 use denote.Ref.{now}
 use Rattle.laws.proofs.Choices.{true-false}
-use Rattle.lines.specs.Streams.{begun, Keeps}
-use Rattle.lines.proofs.Streams.{Sized, sized-start, lent-still}
+use Rattle.stream.specs.Streams.{begun, Keeps}
+use Rattle.stream.proofs.Streams.{Sized, sized-start, lent-still}
 use Rattle.recode.proofs.Pouring.{Pouring, pour-start, pour-moves, pour-more}
 use Rattle.recode.proofs.pour.Statement.{statement}
 use Rattle.recode.proofs.pour.Tie as tie

@@ -4,8 +4,8 @@ use Prim.Native.Nat.{_≤_}
 use native.Mathlib.Omega.{arith}
 use lib.ListN.{length}
 use denote.Ref.{now}
-use Rattle.lines.specs.Streams.{mostKept}
-use Rattle.lines.proofs.Streams.{Sized, sized-start, lent-still}
+use Rattle.stream.specs.Streams.{mostKept}
+use Rattle.stream.proofs.Streams.{Sized, sized-start, lent-still}
 use Rattle.recode.proofs.run.Statement.{statement}
 use Rattle.recode.proofs.run.Tie as tie
 

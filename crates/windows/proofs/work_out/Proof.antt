@@ -1,7 +1,7 @@
 -- `windows::work_out` meets its contract: a size and a sign where 0 leads, and where 1 does. Assumes nothing.
-use mathlib.Core.Path.{_≡_, refl, _∙_}
+use mathlib.Core.Path.{_≡_, refl}
 use mathlib.Core.Bool.{Bool, true, false}
-use Prim.Native.Nat.{ℕ, _+_, _*_, _%_, _^_, _≤_}
+use Prim.Native.Nat.{_*_, _%_, _^_, _≤_}
 use borrow.Author.Needs.{needs}
 use borrow.Author.Tests.{leb-true, leb-false}
 use native.Mathlib.Omega.{arith}

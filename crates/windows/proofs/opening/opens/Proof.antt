@@ -3,7 +3,6 @@ use Prim.Native.Nat.{_-_, _/_, _%_, _^_}
 use borrow.Author.Needs.{needs}
 use borrow.Author.Tests.{eqb-true, eqb-false, not-true, not-false}
 use lib.Dec.{eqb}
-use Rattle.windows.specs.Openings.{Tells}
 use Rattle.windows.proofs.opening.opens.Statement.{statement}
 use Rattle.windows.proofs.opening.opens.Tie as tie
 

@@ -1,0 +1,2 @@
+-- Laws of eight entries in a word.
+pub mod Packing

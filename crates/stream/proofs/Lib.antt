@@ -1,0 +1,2 @@
+-- Laws of streams of lines.
+pub mod Streams

@@ -1,0 +1,2 @@
+-- What the contracts of a stream say.
+pub mod Streams
