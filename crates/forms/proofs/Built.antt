@@ -38,7 +38,7 @@ put-digits (suc p) D (gap s) = gap (put-digits p D s)
 put-digits (suc p) D (some E s) = some E (put-digits p D s)
 
 -- zeros are worth 0
-zeros-worth : (L : ℕ) → worth (replicate L (pos 0)) ≡ pos 0
+pub zeros-worth : (L : ℕ) → worth (replicate L (pos 0)) ≡ pos 0
 unfolding worth
 zeros-worth zero = refl
 zeros-worth (suc L) = ap (λ x. pos 0 +ℤ pos 2 *ℤ x) (zeros-worth L)

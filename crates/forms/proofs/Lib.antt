@@ -13,6 +13,7 @@ pub mod Ties
 pub mod Loops
 pub mod Places
 pub mod Spacing
+pub mod Only
 pub mod Wnaf
 pub mod Listed
 pub mod Mof

@@ -73,7 +73,7 @@ same a b n = go (ℤ-discrete a b)
 
 module _ (w : ℕ) (s : List ℕ) (ds : List ℤ) where
   -- no rule of the plain check applies to a legal string, and to no other
-  legal-none : Legal w s ds → None (checkRules w s ds)
+  pub legal-none : Legal w s ds → None (checkRules w s ds)
   legal-none L =
       let sound : (p : ℕ) → badDigit w ds .1 p → ⊥ = λ p h. fails (inSet (largest w) (getD ds p (pos 0))) (all-at (largest w) ds (L .digits) p (h .0 .within)) (h .0 .bad) in
       (width-fine (L .lawful), (not-plain (λ h. omega (arith, L .few)), (not-plain (λ h. omega (arith, L .short)), (sound, (not-plain (λ h. h (L .worth-is)), tt)))))

@@ -1,20 +1,22 @@
 -- Demand 1. The calls take every input. A refusal gives the number that the document lists, in the order listed there, and no lent buffer differs afterwards.
 -- From the calls' promises alone, which have no condition. The checks, the search and the making of a reader are lent nothing to write. Assumes nothing.
-use mathlib.Core.Path.{_≡_, refl, _∙_}
+use mathlib.Core.Path.{_≡_, refl, subst, _∙_}
 use mathlib.Core.Logic.{_≢_, inl, inr}
 use mathlib.Core.List.{List}
-use Prim.Native.Nat.{ℕ, _≤_}
+use Prim.Native.Nat.{ℕ, _+_, _≤_}
 use native.Mathlib.Omega.{arith}
+use lib.Dec.{T}
 use lib.IntN.{ℤ}
 use lib.ListN.{length}
 use Rattle.meaning.specs.Scalars.{number, bitCount}
-use Rattle.meaning.specs.Refusals.{First}
-use Rattle.meaning.specs.Recoding.{recodeRules}
+use Rattle.meaning.specs.Refusals.{Rule, First}
+use Rattle.meaning.specs.Recoding.{markWords, recodeRules}
 use Rattle.meaning.specs.Checking.{checkRules, nonadjacentRules}
 use Rattle.meaning.specs.Taping.{tapeRules}
 use Rattle.meaning.specs.Running.{runRules}
 use Rattle.meaning.specs.Reading.{readerRules, Holds}
 use Rattle.meaning.specs.Searching.{searchRules, Search}
+use Rattle.meaning.specs.Lines.{malformed, formOf, widthOf, scalarOf, lineRules, Answer}
 use Rattle.forms.proofs.Refusals.{kept-lent}
 use Rattle.forms.proofs.Forms.{form-exists}
 use Rattle.scalar.proofs.Bytes.{Bytes, number-lt}
@@ -22,7 +24,7 @@ use Rattle.tape.proofs.Refusals.{not-below}
 use Rattle.judge.specs.declared.Verdict.{Verdict}
 use Rattle.run.specs.declared.Ran.{Ran}
 use Rattle.run.specs.Outcomes.{refusalOf, placeOf, Promise}
-use Rattle.promises.proofs.Exactly.{Exactly, exactly}
+use Rattle.promises.proofs.Exactly.{Applies, Exactly, first-applies, exactly}
 use Rattle.promises.proofs.Rules.{recode-tells, check-tells, nonadjacent-tells, tape-tells, run-tells, reader-tells, search-tells, recode-rises, check-rises, nonadjacent-rises, tape-rises, run-rises, reader-rises, search-rises}
 use Rattle.promises.proofs.Recode as Recoding
 use Rattle.promises.proofs.Tape as Taping
@@ -51,6 +53,38 @@ reader-exactly w s r H = exactly _ (reader-tells w s) (reader-rises w s) _ _ H
 
 pub search-exactly : (number w r k : ℕ) → Search number w r k → Exactly (searchRules number w) r 0
 search-exactly number w r k K = exactly _ (search-tells number w) (search-rises number w) _ _ (K .first)
+
+-- the line: the program tries 16 first, and then recode's rules
+pub record LineExactly (line : List ℕ) (r : ℕ) : Type 0 where
+  pub malformed-first : T (malformed line) → r ≡ 16
+  pub malformed-only : r ≡ 16 → T (malformed line)
+  pub others : (T (malformed line) → ⊥) → let s = scalarOf line in Exactly (recodeRules (formOf line) (widthOf line) s (bitCount s + 1) markWords) r 0
+
+pub line-exactly : (line out : List ℕ) (A : Answer line out) → LineExactly line (A .refusal)
+line-exactly line out A = go (A .first)
+  where
+    s : List ℕ
+    s = scalarOf line
+
+    rules : List Rule
+    rules = recodeRules (formOf line) (widthOf line) s (bitCount s + 1) markWords
+
+    none-16 : {p : ℕ} → Applies rules 16 p → ⊥
+    none-16 (inl (e, _)) = omega arith
+    none-16 (inr (inl (e, _))) = omega arith
+    none-16 (inr (inr (inl (e, _)))) = omega arith
+    none-16 (inr (inr (inr (inl (e, _))))) = omega arith
+    none-16 (inr (inr (inr (inr (inl (e, _)))))) = omega arith
+    none-16 (inr (inr (inr (inr (inr (inl (e, _))))))) = omega arith
+
+    go : First (lineRules line) (A .refusal) 0 → LineExactly line (A .refusal)
+    go (inl (e, (h, _))) = record { malformed-first = λ _. e; malformed-only = λ _. h; others = λ n. absurd (n h) }
+    go (inr (n, f)) =
+        record {
+          malformed-first = λ h. absurd (n 0 (h, refl));
+          malformed-only = λ e. absurd (none-16 (subst (λ r. Applies rules r 0) e (first-applies rules (A .refusal) 0 f (λ z. omega arith))));
+          others = λ _. exactly rules (recode-tells (formOf line) (widthOf line) s (bitCount s + 1) markWords) (recode-rises (formOf line) (widthOf line) s (bitCount s + 1) markWords) (A .refusal) 0 f;
+        }
 
 -- 6 is never given: n + 1 places always suffice
 pub recode-never-6 : (form w : ℕ) (s : List ℕ) → Bytes s → (digits₀ : List ℤ) (marks₀ : List ℕ) (o : Recoding.Outcome) → Recoding.Keeps form w s digits₀ marks₀ o → o .tally .refusal ≢ 6

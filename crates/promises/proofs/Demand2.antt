@@ -32,12 +32,15 @@ module _ {form w : ℕ} {s : List ℕ} {digits₀ : List ℤ} {marks₀ : List �
   two : 2 ≤ w
   two = accepted-width form w s (length digits₀) (length marks₀) (o .tally .place) (subst (λ r. First (recodeRules form w s (length digits₀) (length marks₀)) r (o .tally .place)) z (K .first))
 
-  -- the n + 1 digits of an accepted recode are the form's, digit for digit
-  pub recoded-form : Form form w (number s) (bitCount s) (take (bitCount s + 1) (o .digits))
-  recoded-form =
+  -- the n + 1 digits of an accepted recode are the string that its promise speaks of
+  pub recoded-string : take (bitCount s + 1) (o .digits) ≡ K .accepted z .string
+  recoded-string =
       let A = K .accepted z in
-      let e = ap (take (bitCount s + 1)) (A .digits-are) ∙ take-at (A .string) _ (bitCount s + 1) (form-length w (number s) (bitCount s) two small form (A .string) (A .formed)) in
-      subst (λ ds. Form form w (number s) (bitCount s) ds) (sym e) (A .formed)
+      ap (take (bitCount s + 1)) (A .digits-are) ∙ take-at (A .string) _ (bitCount s + 1) (form-length w (number s) (bitCount s) two small form (A .string) (A .formed))
+
+  -- which is the form's, digit for digit
+  pub recoded-form : Form form w (number s) (bitCount s) (take (bitCount s + 1) (o .digits))
+  recoded-form = subst (λ ds. Form form w (number s) (bitCount s) ds) (sym recoded-string) (K .accepted z .formed)
 
   -- and worth the scalar
   pub recoded-worth : worth (take (bitCount s + 1) (o .digits)) ≡ pos (number s)

@@ -46,9 +46,10 @@ abbrev pub All : {A : Type 0} → (A → Type 0) → List A → Type 0
 All P [] = Unit {0}
 All P (x ∷ xs) = P x × All P xs
 
--- a string in some forms of one width; or a string's tape, and its run at a modulus and a base
+-- a string in some forms of one width; a string in every form at every width that the form has; or a string's tape, and its run at a modulus and a base
 pub data Case : Type 0 where
   string : (forms : List ℕ) (w : ℕ) (s : List ℕ) (ds : List ℤ) → Case
+  every : (s : List ℕ) (ds : List ℤ) → Case
   steps : (w : ℕ) (ds : List ℤ) (ws : List ℕ) (m g x doubled added : ℕ) (multiples : List ℕ) → Case
 
 -- zeros above the digits that are written out
@@ -66,13 +67,7 @@ cases =
     ∷ string (2 ∷ []) 4 (1 ∷ 93 ∷ []) (negsuc 2 ∷ zeros 4 ++ (negsuc 4 ∷ zeros 3 ++ (pos 1 ∷ zeros 7)))
     ∷ string (3 ∷ 4 ∷ []) 4 (1 ∷ 93 ∷ []) (pos 1 ∷ pos 0 ∷ pos 7 ∷ zeros 3 ++ (pos 5 ∷ zeros 10))
     ∷ string (2 ∷ 3 ∷ 4 ∷ []) 8 (255 ∷ []) (negsuc 0 ∷ zeros 7 ++ (pos 1 ∷ []))
-    ∷ string (1 ∷ 2 ∷ 3 ∷ 4 ∷ []) 2 [] (pos 0 ∷ [])
-    ∷ string (2 ∷ 3 ∷ 4 ∷ []) 3 [] (pos 0 ∷ [])
-    ∷ string (2 ∷ 3 ∷ 4 ∷ []) 4 [] (pos 0 ∷ [])
-    ∷ string (2 ∷ 3 ∷ 4 ∷ []) 5 [] (pos 0 ∷ [])
-    ∷ string (2 ∷ 3 ∷ 4 ∷ []) 6 [] (pos 0 ∷ [])
-    ∷ string (2 ∷ 3 ∷ 4 ∷ []) 7 [] (pos 0 ∷ [])
-    ∷ string (2 ∷ 3 ∷ 4 ∷ []) 8 [] (pos 0 ∷ [])
+    ∷ every [] (pos 0 ∷ [])
     ∷ string (1 ∷ []) 2 (3 ∷ []) (negsuc 0 ∷ pos 0 ∷ pos 1 ∷ zeros 6)
     ∷ steps 2 (pos 1 ∷ pos 0 ∷ negsuc 0 ∷ pos 0 ∷ pos 1 ∷ zeros 4) (0x1000 ∷ 0 ∷ 0 ∷ 0x4000 ∷ 0 ∷ 0 ∷ 0x3000 ∷ []) 1000 7 91 4 2 (7 ∷ [])
     ∷ steps 3 (pos 0 ∷ negsuc 2 ∷ pos 0 ∷ pos 0 ∷ pos 3 ∷ zeros 4) (0x1001 ∷ 0 ∷ 0 ∷ 0 ∷ 0x4001 ∷ 0 ∷ []) 10 9 8 4 1 (9 ∷ 7 ∷ [])
@@ -98,9 +93,13 @@ pub record Written (ws : List ℕ) (doubled added : ℕ) (words₀ : List ℕ) (
   pub taped-is : o .taped ≡ record { refusal = 0; place = 0; words = length ws; doublings = doubled; additions = added }
   pub words-are : o .words ≡ ws ++ drop (length ws) words₀
 
+-- whatever is lent, if it is enough, recode answers these digits
+abbrev pub Answers : (f w : ℕ) (s : List ℕ) (ds : List ℤ) → Type 0
+Answers f w s ds = (digits₀ : List ℤ) (marks₀ : List ℕ) → bitCount s + 1 ≤ length digits₀ → markWords ≤ length marks₀ → (o : Outcome) → Keeps f w s digits₀ marks₀ o → Answered s ds digits₀ marks₀ o
+
 pub Holds : Case → Type 0
-Holds (string forms w s ds) =
-    All (λ f. (digits₀ : List ℤ) (marks₀ : List ℕ) → bitCount s + 1 ≤ length digits₀ → markWords ≤ length marks₀ → (o : Outcome) → Keeps f w s digits₀ marks₀ o → Answered s ds digits₀ marks₀ o) forms
+Holds (string forms w s ds) = All (λ f. Answers f w s ds) forms
+Holds (every s ds) = (f w : ℕ) → Allowed f w → Answers f w s ds
 Holds (steps w ds ws m g x doubled added multiples) =
     ((words₀ : List ℕ) → length ws ≤ length words₀ → (o : Taping.Outcome) → Taping.Keeps w ds words₀ o → Written ws doubled added words₀ o)
     × ((multiples₀ : List ℕ) → entries w ≤ length multiples₀ → (r : Ran) (ms : List ℕ) → Promise w ws m g multiples₀ r ms
@@ -136,7 +135,7 @@ string-formed (suc (suc (suc (suc (suc f))))) w N n two small a b = absurd (omeg
 
 -- an outcome that keeps the promise is the one that the form's string gives
 pub answered : (f w : ℕ) (s : List ℕ) (ds : List ℤ) → Allowed f w → length s ≤ 66 → number s < 2 ^ bitCount s → Form f w (number s) (bitCount s) ds
-    → (digits₀ : List ℤ) (marks₀ : List ℕ) → bitCount s + 1 ≤ length digits₀ → markWords ≤ length marks₀ → (o : Outcome) → Keeps f w s digits₀ marks₀ o → Answered s ds digits₀ marks₀ o
+    → Answers f w s ds
 answered f w s ds a l small F digits₀ marks₀ p q o K =
     let want : Outcome = record { tally = record { refusal = 0; place = 0; weight = weight ds; top = top ds }; digits = ds ++ drop (bitCount s + 1) digits₀; marks = marksOf ds ++ drop markWords marks₀ } in
     let W : Keeps f w s digits₀ marks₀ want = record {
@@ -146,6 +145,10 @@ answered f w s ds a l small F digits₀ marks₀ p q o K =
     } in
     let e = recode-determined f w s digits₀ marks₀ o want K W in
     record { tally-is = ap (λ (x : Outcome). x .tally) e; digits-are = ap (λ (x : Outcome). x .digits) e; marks-are = ap (λ (x : Outcome). x .marks) e }
+
+-- so for the string that is computed
+by-string : (f w : ℕ) (s : List ℕ) (ds : List ℤ) → Allowed f w → length s ≤ 66 → number s < 2 ^ bitCount s → ds ≡ stringOf f w (number s) (bitCount s) → Answers f w s ds
+by-string f w s ds a l small e = answered f w s ds a l small (rw e (string-formed f w (number s) (bitCount s) (a .lawful .0) small (a .least) (a .most)))
 
 -- ---- a tape and its run
 -- what computes of such a case
@@ -211,20 +214,19 @@ module _ (w : ℕ) (ds : List ℤ) (ws : List ℕ) (m g x doubled added : ℕ) (
 -- a case computes
 pub Fits : Case → Type 0
 Fits (string forms w s ds) = (length s ≤ 66) × (number s < 2 ^ bitCount s) × All (λ f. T (fine f w) × (ds ≡ stringOf f w (number s) (bitCount s))) forms
+Fits (every s ds) = (length s ≤ 66) × (number s < 2 ^ bitCount s) × ((f w : ℕ) → Allowed f w → ds ≡ stringOf f w (number s) (bitCount s))
 Fits (steps w ds ws m g x doubled added multiples) = Stepped w ds ws m g x doubled added multiples
 
 -- and so it holds
 holds : (c : Case) → Fits c → Holds c
 unfolding Fits Holds
 holds (steps w ds ws m g x doubled added multiples) S = (taped w ds ws m g x doubled added multiples S, ran w ds ws m g x doubled added multiples S)
+holds (every s ds) (l, small, each) = λ f w a. by-string f w s ds a l small (each f w a)
 holds (string forms w s ds) (l, small, each) = go forms each
   where
-    go : (fs : List ℕ) → All (λ f. T (fine f w) × (ds ≡ stringOf f w (number s) (bitCount s))) fs
-        → All (λ f. (digits₀ : List ℤ) (marks₀ : List ℕ) → bitCount s + 1 ≤ length digits₀ → markWords ≤ length marks₀ → (o : Outcome) → Keeps f w s digits₀ marks₀ o → Answered s ds digits₀ marks₀ o) fs
+    go : (fs : List ℕ) → All (λ f. T (fine f w) × (ds ≡ stringOf f w (number s) (bitCount s))) fs → All (λ f. Answers f w s ds) fs
     go [] h = tt
-    go (f ∷ fs) ((t, e), h) =
-        let a = allowed f w t in
-        (answered f w s ds a l small (rw e (string-formed f w (number s) (bitCount s) (a .lawful .0) small (a .least) (a .most))), go fs h)
+    go (f ∷ fs) ((t, e), h) = (by-string f w s ds (allowed f w t) l small e, go fs h)
 
 all-hold : (cs : List Case) → All Fits cs → All Holds cs
 all-hold [] h = tt
@@ -266,6 +268,16 @@ twelfth =
       multiples-are = refl;
     }
 
+-- no bytes, in every form
+no-bytes : (f w : ℕ) → Allowed f w → pos 0 ∷ [] ≡ stringOf f w (number []) (bitCount [])
+unfolding stringOf number mof listed wnafFrom wnafDigit wnafNext wmof wmofUnder closestOf closestUnder windowWorth shrink trailingZeros
+no-bytes zero w a = absurd (omega (arith, a .least))
+no-bytes (suc zero) w a = refl
+no-bytes (suc (suc zero)) w a = refl
+no-bytes (suc (suc (suc zero))) w a = refl
+no-bytes (suc (suc (suc (suc zero)))) w a = refl
+no-bytes (suc (suc (suc (suc (suc f))))) w a = absurd (omega (arith, a .most))
+
 -- every case computes: the numbers, and each form's string by `refl`
 all-fit : All Fits cases
 unfolding Fits cases stringOf number mof listed wnafFrom wnafDigit wnafNext wmof wmofUnder closestOf closestUnder windowWorth shrink trailingZeros
@@ -278,13 +290,7 @@ all-fit =
     & (lit≤ tt, lit< tt, (tt, refl) & tt)
     & (lit≤ tt, lit< tt, (tt, refl) & (tt, refl) & tt)
     & (lit≤ tt, lit< tt, (tt, refl) & (tt, refl) & (tt, refl) & tt)
-    & (lit≤ tt, lit< tt, (tt, refl) & (tt, refl) & (tt, refl) & (tt, refl) & tt)
-    & (lit≤ tt, lit< tt, (tt, refl) & (tt, refl) & (tt, refl) & tt)
-    & (lit≤ tt, lit< tt, (tt, refl) & (tt, refl) & (tt, refl) & tt)
-    & (lit≤ tt, lit< tt, (tt, refl) & (tt, refl) & (tt, refl) & tt)
-    & (lit≤ tt, lit< tt, (tt, refl) & (tt, refl) & (tt, refl) & tt)
-    & (lit≤ tt, lit< tt, (tt, refl) & (tt, refl) & (tt, refl) & tt)
-    & (lit≤ tt, lit< tt, (tt, refl) & (tt, refl) & (tt, refl) & tt)
+    & (lit≤ tt, lit< tt, no-bytes)
     & (lit≤ tt, lit< tt, (tt, refl) & tt)
     & eleventh
     & twelfth

@@ -14,3 +14,9 @@ pub mod RuledOut
 pub mod Demand1
 pub mod Demand2
 pub mod Demand3
+pub mod EndToEnd
+pub mod Marks
+pub mod Wnaf
+pub mod Instances
+pub mod Stream
+pub mod Exported

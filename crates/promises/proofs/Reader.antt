@@ -1,9 +1,9 @@
--- The promises of the reader: two outcomes of `new`, of `next` and of `read_at` that satisfy them are equal; whole sequences are; and a reader that is right in its first
--- window and zero after cannot satisfy them. Assumes nothing.
-use mathlib.Core.Path.{_≡_, refl, sym, ap, _∙_}
+-- The promises of the reader: two outcomes of `new`, of `next` and of `read_at` that satisfy them are equal; and a reader that is right in its first window and zero after,
+-- one that is done at once and one that is never done cannot satisfy them, over `new` and a chain of `next` as over `read_at`. Assumes nothing.
+use mathlib.Core.Path.{_≡_, refl, sym, ap, subst, _∙_}
 use mathlib.Core.Logic.{_≢_, inr, ⊎-elim}
 use mathlib.Core.List.{List, [], _∷_}
-use Prim.Native.Nat.{ℕ, _+_, _≤_}
+use Prim.Native.Nat.{ℕ, suc, _+_, _≤_}
 use native.Mathlib.Omega.{arith}
 use lib.Count.{trailingZeros}
 use lib.Dec.{lit≤}
@@ -20,10 +20,11 @@ use Rattle.reader.specs.declared.Reader.{Reader}
 use Rattle.reader.specs.declared.Reading.{Reading}
 use Rattle.reader.specs.States.{starting, after}
 use Rattle.reader.specs.Calls.{readOf, stateOf, readerOf, Made, Called, Answered}
+use Rattle.reader.proofs.Calls.{answer-at}
 use Rattle.promises.proofs.Rules.{reader-tells}
 
 -- one number held
-same-number : (w : ℕ) (s : List ℕ) (r r′ : ℕ) → Holds w s r → Holds w s r′ → r ≡ r′
+pub same-number : (w : ℕ) (s : List ℕ) (r r′ : ℕ) → Holds w s r → Holds w s r′ → r ≡ r′
 same-number w s r r′ a b = first-only (readerRules w s) (reader-tells w s) r 0 r′ 0 a b .0
 
 -- what a call gives is told by document 01's
@@ -52,11 +53,6 @@ pub next-determined : (before a b : Reader) (m n : Next) → Called before a m �
 next-determined before a b m n A B = (A .after-is ∙ sym (B .after-is), A .next-is ∙ sym (B .next-is))
 
 -- ---- ruled out
--- what a call gives at each number of calls before it, for every width and scalar, keeping the promise
-pub record Readings : Type 0 where
-  pub read : (w : ℕ) (s : List ℕ) (k : ℕ) → Reading
-  pub keeps : (w : ℕ) (s : List ℕ) (k : ℕ) → Answered w s k (read w s k)
-
 -- the size of the digit that is given
 pub size : Read → ℕ
 size (digit d) = natAbs d
@@ -66,25 +62,71 @@ size done = 0
 holds-none : Holds 2 (13 ∷ []) 0
 holds-none = inr ((λ q h. ⊎-elim (λ l. omega arith) (λ l. omega arith) (h .0)), inr ((λ q h. omega arith), (refl, refl)))
 
-module _ (c : Readings) where
-  given : (k : ℕ) → readOf (c .read 2 (13 ∷ []) k .next) ≡ readAt (sequence 0 2 (13 ∷ [])) k
-  given k =
-      let K = c .keeps 2 (13 ∷ []) k in
-      K .gives ∙ ap (λ x. readAt (sequence x 2 (13 ∷ [])) k) (same-number 2 (13 ∷ []) (c .read 2 (13 ∷ []) k .refusal) 0 (K .holds) holds-none)
-
-  at-four : size (readOf (c .read 2 (13 ∷ []) 4 .next)) ≡ 1
+-- answers that are its sequence, call by call
+module _ (answer : ℕ → Read) (given : (k : ℕ) → answer k ≡ readAt (sequence 0 2 (13 ∷ [])) k) where
+  at-four : size (answer 4) ≡ 1
   unfolding size readAt number wmof wmofUnder windowWorth shrink trailingZeros
   at-four = ap size (given 4)
 
-  at-seven : size (readOf (c .read 2 (13 ∷ []) 7 .next)) ≡ 1
+  at-seven : size (answer 7) ≡ 1
   unfolding size readAt number wmof wmofUnder windowWorth shrink trailingZeros
   at-seven = ap size (given 7)
 
   -- right in its first window and zero after: w calls after a nonzero digit nothing but zeros is given
-  pub reader-not-fading : ((w : ℕ) (s : List ℕ) (j k : ℕ) → j + w ≤ k → size (readOf (c .read w s j .next)) ≢ 0 → size (readOf (c .read w s k .next)) ≡ 0) → ⊥
-  reader-not-fading f = omega (arith, at-seven, f 2 (13 ∷ []) 4 7 (lit≤ tt) (λ z. omega (arith, at-four)))
+  not-fading : ((j k : ℕ) → j + 2 ≤ k → size (answer j) ≢ 0 → size (answer k) ≡ 0) → ⊥
+  not-fading f = omega (arith, at-seven, f 4 7 (lit≤ tt) (λ z. omega (arith, at-four)))
 
-  -- done at once, whatever it is made from
-  pub reader-not-done : ((w : ℕ) (s : List ℕ) (k : ℕ) → c .read w s k .next ≡ Done) → ⊥
+  -- done at once
+  not-done : ((k : ℕ) → answer k ≡ done) → ⊥
   unfolding size
-  reader-not-done f = omega (arith, at-four, ap (λ x. size (readOf x)) (f 2 (13 ∷ []) 4))
+  not-done f = omega (arith, at-four, ap size (f 4))
+
+  -- never done
+  not-endless : ((k : ℕ) → answer k ≢ done) → ⊥
+  unfolding readAt number wmof wmofUnder windowWorth shrink trailingZeros
+  not-endless f = f 9 (given 9)
+
+-- ---- `new` and a chain of `next`: a reader made from every width and scalar, what `next` makes of it call by call, and what it gives
+pub record Readers : Type 1 where
+  pub reader : (w : ℕ) (s : RefT (List ℕ)) (k : ℕ) → Reader
+  pub answer : (w : ℕ) (s : RefT (List ℕ)) (k : ℕ) → Next
+  pub made : (w : ℕ) (s : RefT (List ℕ)) → Made w s (reader w s 0)
+  pub called : (w : ℕ) (s : RefT (List ℕ)) (k : ℕ) → Called (reader w s k) (reader w s (suc k)) (answer w s k)
+
+module _ (c : Readers) (s : RefT (List ℕ)) (thirteen : now s ≡ 13 ∷ []) where
+  abbrev answers : ℕ → Read
+  answers k = readOf (c .answer 2 s k)
+
+  chained : (k : ℕ) → answers k ≡ readAt (sequence 0 2 (13 ∷ [])) k
+  chained k =
+      let held = same-number 2 (13 ∷ []) (c .reader 2 s 0 .refusal) 0 (subst (λ x. Holds 2 x (c .reader 2 s 0 .refusal)) thirteen (c .made 2 s .state-is .holds)) holds-none in
+      answer-at 2 s (c .reader 2 s) (c .answer 2 s) (c .made 2 s) (c .called 2 s) k ∙ ap (λ r. readAt (sequence r 2 (now s)) k) held ∙ ap (λ x. readAt (sequence 0 2 x) k) thirteen
+
+  pub next-not-fading : ((w : ℕ) (r : RefT (List ℕ)) (j k : ℕ) → j + w ≤ k → size (readOf (c .answer w r j)) ≢ 0 → size (readOf (c .answer w r k)) ≡ 0) → ⊥
+  next-not-fading f = not-fading answers chained (f 2 s)
+
+  pub next-not-done : ((w : ℕ) (r : RefT (List ℕ)) (k : ℕ) → c .answer w r k ≡ Done) → ⊥
+  next-not-done f = not-done answers chained (λ k. ap readOf (f 2 s k))
+
+  pub next-not-endless : ((w : ℕ) (r : RefT (List ℕ)) (k : ℕ) → c .answer w r k ≢ Done) → ⊥
+  next-not-endless f = not-endless answers chained (λ k e. f 2 s k (read-same (c .answer 2 s k) Done e))
+
+-- ---- `read_at`: what it gives at each number of calls, for every width and scalar
+pub record Readings : Type 0 where
+  pub read : (w : ℕ) (s : List ℕ) (k : ℕ) → Reading
+  pub keeps : (w : ℕ) (s : List ℕ) (k : ℕ) → Answered w s k (read w s k)
+
+module _ (c : Readings) where
+  abbrev reads : ℕ → Read
+  reads k = readOf (c .read 2 (13 ∷ []) k .next)
+
+  given-at : (k : ℕ) → reads k ≡ readAt (sequence 0 2 (13 ∷ [])) k
+  given-at k =
+      let K = c .keeps 2 (13 ∷ []) k in
+      K .gives ∙ ap (λ x. readAt (sequence x 2 (13 ∷ [])) k) (same-number 2 (13 ∷ []) (c .read 2 (13 ∷ []) k .refusal) 0 (K .holds) holds-none)
+
+  pub reader-not-fading : ((w : ℕ) (s : List ℕ) (j k : ℕ) → j + w ≤ k → size (readOf (c .read w s j .next)) ≢ 0 → size (readOf (c .read w s k .next)) ≡ 0) → ⊥
+  reader-not-fading f = not-fading reads given-at (f 2 (13 ∷ []))
+
+  pub reader-not-done : ((w : ℕ) (s : List ℕ) (k : ℕ) → c .read w s k .next ≡ Done) → ⊥
+  reader-not-done f = not-done reads given-at (λ k. ap readOf (f 2 (13 ∷ []) k))

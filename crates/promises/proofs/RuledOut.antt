@@ -3,7 +3,7 @@
 use mathlib.Core.Path.{_≡_, refl, sym, ap, _∙_}
 use mathlib.Core.Logic.{_≢_, _⊎_, inl, inr}
 use mathlib.Core.List.{List, [], _∷_}
-use Prim.Native.Nat.{ℕ, _+_, _<_}
+use Prim.Native.Nat.{ℕ, zero, suc, _+_, _<_}
 use native.Mathlib.Omega.{arith}
 use lib.Dec.{lit<, lit≤}
 use lib.IntN.{ℤ, pos, negsuc, natAbs}
@@ -13,12 +13,13 @@ use Rattle.meaning.specs.Digits.{worth, weight, top, nonzero, inSet, allIn, Apa
 use Rattle.meaning.specs.Refusals.{Rule, First, granted}
 use Rattle.meaning.specs.Recoding.{recodeRules}
 use Rattle.meaning.specs.Checking.{checkRules, nonadjacentRules}
-use Rattle.meaning.specs.Taping.{tapeOf, doublings, tapeRules}
+use Rattle.meaning.specs.Taping.{doublings, additions}
 use Rattle.meaning.specs.Running.{runRules}
 use Rattle.meaning.specs.Searching.{searchRules, Search}
 use Rattle.meaning.specs.Lines.{nibble, allHex, bytesOf, malformed, written, lineRules, Answer}
 use Rattle.forms.specs.Wnaf.{wnafDigit, wnafNext, wnafFrom}
-use Rattle.forms.proofs.Refusals.{first-only, kept-lent}
+use Rattle.forms.proofs.Refusals.{first-only, kept-lent, granted-all}
+use Rattle.scalar.proofs.Bytes.{Bytes, number-lt}
 use Rattle.recoder.specs.declared.Tally.{Tally}
 use Rattle.recoder.proofs.Formed.{is-wnaf}
 use Rattle.recoder.proofs.Judging.{refuses-2, refuses-none}
@@ -30,18 +31,27 @@ use Rattle.search.specs.declared.Searched.{Searched}
 use Rattle.judge.specs.declared.Verdict.{Verdict}
 use Rattle.tape.proofs.Refusals.{width-fine, not-plain}
 use Rattle.promises.proofs.Rules.{recode-tells, check-tells, tape-tells, run-tells, search-tells, line-tells}
-use Rattle.promises.proofs.Exactly.{none-first}
 use Rattle.promises.proofs.Recode as Recoding
+use Rattle.promises.proofs.Recode.{recode-determined}
 use Rattle.promises.proofs.Tape as Taping
 use Rattle.promises.proofs.Check as Checking
 use Rattle.promises.proofs.Check.{Legal, check-yes, check-yes-only, nonadjacent-yes-only}
-use Rattle.promises.proofs.Known.{Answered, allowed, answered, Written, taped, ran, eleventh, twelfth}
+use Rattle.promises.proofs.Known.{Answered, allowed, answered, Written, taped, ran, eleventh}
+use Rattle.promises.proofs.Demand3.{taped-additions, taped-doublings}
+use Rattle.promises.proofs.Instances.{recode-kept-by, check-kept-by, nonadjacent-kept-by, tape-kept-by, run-kept-by}
 
 -- ---- recode
--- an outcome for every input, which keeps the promise
+-- an outcome for every input, a scalar of bytes among it, which keeps the promise
 pub record Recoder : Type 0 where
-  pub call : (form w : ℕ) (s : List ℕ) (digits₀ : List ℤ) (marks₀ : List ℕ) → Recoding.Outcome
-  pub keeps : (form w : ℕ) (s : List ℕ) (digits₀ : List ℤ) (marks₀ : List ℕ) → Recoding.Keeps form w s digits₀ marks₀ (call form w s digits₀ marks₀)
+  pub call : (form w : ℕ) (s : List ℕ) → Bytes s → (digits₀ : List ℤ) (marks₀ : List ℕ) → Recoding.Outcome
+  pub keeps : (form w : ℕ) (s : List ℕ) (b : Bytes s) (digits₀ : List ℤ) (marks₀ : List ℕ) → Recoding.Keeps form w s digits₀ marks₀ (call form w s b digits₀ marks₀)
+
+-- there is one; and the real call is one, since what it leaves at any input is what this one leaves
+pub recoder : Recoder
+recoder = record { call = λ form w s b digits₀ marks₀. recode-kept-by form w s b digits₀ marks₀ .0; keeps = λ form w s b digits₀ marks₀. recode-kept-by form w s b digits₀ marks₀ .1 }
+
+pub recode-real : (form w : ℕ) (s : List ℕ) (b : Bytes s) (digits₀ : List ℤ) (marks₀ : List ℕ) (o : Recoding.Outcome) → Recoding.Keeps form w s digits₀ marks₀ o → o ≡ recoder .call form w s b digits₀ marks₀
+recode-real form w s b digits₀ marks₀ o K = recode-determined form w s digits₀ marks₀ o _ K (recoder .keeps form w s b digits₀ marks₀)
 
 -- buffers that are lent: nine zeros each
 digits-lent : List ℤ
@@ -50,98 +60,105 @@ digits-lent = replicate 9 (pos 0)
 marks-lent : List ℕ
 marks-lent = replicate 9 0
 
--- what it does with a byte as wNAF at width 2
-byte-answer : (c : Recoder) (b : ℕ) → number (b ∷ []) < 256 → Answered (b ∷ []) (wnafFrom 2 9 (number (b ∷ []))) digits-lent marks-lent (c .call 2 2 (b ∷ []) digits-lent marks-lent)
-unfolding digits-lent marks-lent
-byte-answer c b h =
-    answered 2 2 (b ∷ []) (wnafFrom 2 9 (number (b ∷ []))) (allowed 2 2 tt) (lit≤ tt) h (is-wnaf 2 2 (number (b ∷ [])) 8 _ (lit≤ tt) h refl refl) digits-lent marks-lent (lit≤ tt) (lit≤ tt)
-    (c .call 2 2 (b ∷ []) digits-lent marks-lent) (c .keeps 2 2 (b ∷ []) digits-lent marks-lent)
+-- lists of bytes: one byte, and zeros
+one-byte : (x : ℕ) → x < 256 → Bytes (x ∷ [])
+one-byte x h zero = h
+one-byte x h (suc i) = lit< tt
 
--- the lowest digit of the buffer afterwards
-lowest-digit : List ℤ → ℕ
-lowest-digit ds = natAbs (getD ds 0 (pos 0))
+zero-bytes : (n : ℕ) → Bytes (replicate n 0)
+zero-bytes zero i = lit< tt
+zero-bytes (suc n) zero = lit< tt
+zero-bytes (suc n) (suc i) = zero-bytes n i
 
--- 1 has the digit 1 at place 0, and 2 has 0 there
-one-digit : (c : Recoder) → lowest-digit (c .call 2 2 (1 ∷ []) digits-lent marks-lent .digits) ≡ 1
-unfolding lowest-digit digits-lent marks-lent number wnafFrom wnafDigit wnafNext
-one-digit c = ap lowest-digit (byte-answer c 1 (lit< tt) .digits-are)
+module _ (c : Recoder) where
+  -- what it does with a byte as wNAF at width 2
+  of-byte : (x : ℕ) → x < 256 → Recoding.Outcome
+  of-byte x h = c .call 2 2 (x ∷ []) (one-byte x h) digits-lent marks-lent
 
-two-digit : (c : Recoder) → lowest-digit (c .call 2 2 (2 ∷ []) digits-lent marks-lent .digits) ≡ 0
-unfolding lowest-digit digits-lent marks-lent number wnafFrom wnafDigit wnafNext
-two-digit c = ap lowest-digit (byte-answer c 2 (lit< tt) .digits-are)
+  byte-answer : (x : ℕ) (h : x < 256) → Answered (x ∷ []) (wnafFrom 2 9 (number (x ∷ []))) digits-lent marks-lent (of-byte x h)
+  unfolding digits-lent marks-lent of-byte
+  byte-answer x h =
+      let small = number-lt (x ∷ []) (one-byte x h) in
+      answered 2 2 (x ∷ []) (wnafFrom 2 9 (number (x ∷ []))) (allowed 2 2 tt) (lit≤ tt) small (is-wnaf 2 2 (number (x ∷ [])) 8 _ (lit≤ tt) small refl refl) digits-lent marks-lent (lit≤ tt) (lit≤ tt)
+      (of-byte x h) (c .keeps 2 2 (x ∷ []) (one-byte x h) digits-lent marks-lent)
 
--- it is accepted
-one-accepted : (c : Recoder) → c .call 2 2 (1 ∷ []) digits-lent marks-lent .tally .refusal ≡ 0
-unfolding digits-lent marks-lent number
-one-accepted c = ap (λ (t : Tally). t .refusal) (byte-answer c 1 (lit< tt) .tally-is)
+  -- it is accepted
+  byte-accepted : (x : ℕ) (h : x < 256) → of-byte x h .tally .refusal ≡ 0
+  byte-accepted x h = ap (λ (t : Tally). t .refusal) (byte-answer x h .tally-is)
 
-two-accepted : (c : Recoder) → c .call 2 2 (2 ∷ []) digits-lent marks-lent .tally .refusal ≡ 0
-unfolding digits-lent marks-lent number
-two-accepted c = ap (λ (t : Tally). t .refusal) (byte-answer c 2 (lit< tt) .tally-is)
+  -- the lowest digit of the buffer afterwards
+  lowest-digit : List ℤ → ℕ
+  lowest-digit ds = natAbs (getD ds 0 (pos 0))
 
--- refusing everything
-pub recode-not-refusing : (c : Recoder) → ((form w : ℕ) (s : List ℕ) (digits₀ : List ℤ) (marks₀ : List ℕ) → c .call form w s digits₀ marks₀ .tally .refusal ≢ 0) → ⊥
-recode-not-refusing c r = r 2 2 (1 ∷ []) digits-lent marks-lent (one-accepted c)
+  -- 1 has the digit 1 at place 0, and 2 has 0 there
+  one-digit : lowest-digit (of-byte 1 (lit< tt) .digits) ≡ 1
+  unfolding lowest-digit digits-lent number wnafFrom wnafDigit wnafNext
+  one-digit = ap lowest-digit (byte-answer 1 (lit< tt) .digits-are)
 
--- one fixed string for all scalars
-pub recode-not-fixed : (c : Recoder) (fixed : List ℤ)
-    → ((form w : ℕ) (s : List ℕ) (digits₀ : List ℤ) (marks₀ : List ℕ) → c .call form w s digits₀ marks₀ .tally .refusal ≡ 0 → take (bitCount s + 1) (c .call form w s digits₀ marks₀ .digits) ≡ fixed) → ⊥
-unfolding lowest-digit
-recode-not-fixed c fixed r =
-    let one = r 2 2 (1 ∷ []) digits-lent marks-lent (one-accepted c) in
-    let two = r 2 2 (2 ∷ []) digits-lent marks-lent (two-accepted c) in
-    let z : _≡_ {A = ℕ} 1 0 = sym (one-digit c) ∙ first-of (c .call 2 2 (1 ∷ []) digits-lent marks-lent .digits) ∙ ap lowest-digit (one ∙ sym two)
-    ∙ sym (first-of (c .call 2 2 (2 ∷ []) digits-lent marks-lent .digits)) ∙ two-digit c in
-    omega arith
-  where
-    first-of : (ds : List ℤ) → lowest-digit ds ≡ lowest-digit (take 9 ds)
-    first-of [] = refl
-    first-of (d ∷ ds) = refl
+  two-digit : lowest-digit (of-byte 2 (lit< tt) .digits) ≡ 0
+  unfolding lowest-digit digits-lent number wnafFrom wnafDigit wnafNext
+  two-digit = ap lowest-digit (byte-answer 2 (lit< tt) .digits-are)
 
--- not writing at all
-pub recode-not-idle : (c : Recoder) → ((form w : ℕ) (s : List ℕ) (digits₀ : List ℤ) (marks₀ : List ℕ) → c .call form w s digits₀ marks₀ .digits ≡ digits₀) → ⊥
-unfolding lowest-digit digits-lent
-recode-not-idle c r = let z : _≡_ {A = ℕ} 0 1 = sym (ap lowest-digit (r 2 2 (1 ∷ []) digits-lent marks-lent)) ∙ one-digit c in omega arith
+  -- refusing everything
+  pub recode-not-refusing : ((form w : ℕ) (s : List ℕ) (b : Bytes s) (digits₀ : List ℤ) (marks₀ : List ℕ) → c .call form w s b digits₀ marks₀ .tally .refusal ≢ 0) → ⊥
+  unfolding of-byte
+  recode-not-refusing r = r 2 2 (1 ∷ []) (one-byte 1 (lit< tt)) digits-lent marks-lent (byte-accepted 1 (lit< tt))
 
--- writing on a refusal
-pub recode-not-writing : (c : Recoder) (form w : ℕ) (s : List ℕ) (digits₀ : List ℤ) (marks₀ : List ℕ)
-    → c .call form w s digits₀ marks₀ .tally .refusal ≢ 0 → (c .call form w s digits₀ marks₀ .digits ≢ digits₀) ⊎ (c .call form w s digits₀ marks₀ .marks ≢ marks₀) → ⊥
-recode-not-writing c form w s digits₀ marks₀ n (inl h) = h (c .keeps form w s digits₀ marks₀ .refused n .digits-are)
-recode-not-writing c form w s digits₀ marks₀ n (inr h) = h (c .keeps form w s digits₀ marks₀ .refused n .marks-are)
+  -- one fixed string for all scalars, for each form, width and bit count
+  pub recode-not-fixed : (fixed : (form w n : ℕ) → List ℤ)
+      → ((form w : ℕ) (s : List ℕ) (b : Bytes s) (digits₀ : List ℤ) (marks₀ : List ℕ) → c .call form w s b digits₀ marks₀ .tally .refusal ≡ 0 → take (bitCount s + 1) (c .call form w s b digits₀ marks₀ .digits) ≡ fixed form w (bitCount s)) → ⊥
+  unfolding lowest-digit of-byte
+  recode-not-fixed fixed r =
+      let one = r 2 2 (1 ∷ []) (one-byte 1 (lit< tt)) digits-lent marks-lent (byte-accepted 1 (lit< tt)) in
+      let two = r 2 2 (2 ∷ []) (one-byte 2 (lit< tt)) digits-lent marks-lent (byte-accepted 2 (lit< tt)) in
+      let z : _≡_ {A = ℕ} 1 0 = sym one-digit ∙ first-of (of-byte 1 (lit< tt) .digits) ∙ ap lowest-digit (one ∙ sym two) ∙ sym (first-of (of-byte 2 (lit< tt) .digits)) ∙ two-digit in
+      omega arith
+    where
+      first-of : (ds : List ℤ) → lowest-digit ds ≡ lowest-digit (take 9 ds)
+      first-of [] = refl
+      first-of (d ∷ ds) = refl
 
--- a long scalar refused before a bad width
-pub recode-not-swapped : (c : Recoder) → ((form w : ℕ) (s : List ℕ) (digits₀ : List ℤ) (marks₀ : List ℕ) → 66 < length s → c .call form w s digits₀ marks₀ .tally .refusal ≡ 3) → ⊥
-recode-not-swapped c r =
-    let s : List ℕ = replicate 67 0 in
-    let K = c .keeps 2 9 s [] [] in
-    let e = first-only (recodeRules 2 9 s 0 0) (recode-tells 2 9 s 0 0) _ _ _ _ (K .first) (refuses-2 2 9 s 0 0 (lit≤ tt) (lit≤ tt) (inl (inr (lit< tt)))) .0 in
-    let z : _≡_ {A = ℕ} 3 2 = sym (r 2 9 s [] [] (lit< tt)) ∙ e in
-    omega arith
+  -- not writing at all
+  pub recode-not-idle : ((form w : ℕ) (s : List ℕ) (b : Bytes s) (digits₀ : List ℤ) (marks₀ : List ℕ) → c .call form w s b digits₀ marks₀ .digits ≡ digits₀) → ⊥
+  unfolding lowest-digit digits-lent of-byte
+  recode-not-idle r = let z : _≡_ {A = ℕ} 0 1 = sym (ap lowest-digit (r 2 2 (1 ∷ []) (one-byte 1 (lit< tt)) digits-lent marks-lent)) ∙ one-digit in omega arith
 
--- ---- tape and run, by P11 and P12
+  -- writing on a refusal
+  pub recode-not-writing : (form w : ℕ) (s : List ℕ) (b : Bytes s) (digits₀ : List ℤ) (marks₀ : List ℕ)
+      → c .call form w s b digits₀ marks₀ .tally .refusal ≢ 0 → (c .call form w s b digits₀ marks₀ .digits ≢ digits₀) ⊎ (c .call form w s b digits₀ marks₀ .marks ≢ marks₀) → ⊥
+  recode-not-writing form w s b digits₀ marks₀ n (inl h) = h (c .keeps form w s b digits₀ marks₀ .refused n .digits-are)
+  recode-not-writing form w s b digits₀ marks₀ n (inr h) = h (c .keeps form w s b digits₀ marks₀ .refused n .marks-are)
+
+  -- a long scalar refused before a bad width
+  pub recode-not-swapped : ((form w : ℕ) (s : List ℕ) (b : Bytes s) (digits₀ : List ℤ) (marks₀ : List ℕ) → 66 < length s → c .call form w s b digits₀ marks₀ .tally .refusal ≡ 3) → ⊥
+  recode-not-swapped r =
+      let s : List ℕ = replicate 67 0 in
+      let K = c .keeps 2 9 s (zero-bytes 67) [] [] in
+      let e = first-only (recodeRules 2 9 s 0 0) (recode-tells 2 9 s 0 0) _ _ _ _ (K .first) (refuses-2 2 9 s 0 0 (lit≤ tt) (lit≤ tt) (inl (inr (lit< tt)))) .0 in
+      let z : _≡_ {A = ℕ} 3 2 = sym (r 2 9 s (zero-bytes 67) [] [] (lit< tt)) ∙ e in
+      omega arith
+
+-- ---- tape and run
 pub record Taper : Type 0 where
   pub call : (w : ℕ) (ds : List ℤ) (words₀ : List ℕ) → Taping.Outcome
   pub keeps : (w : ℕ) (ds : List ℤ) (words₀ : List ℕ) → Taping.Keeps w ds words₀ (call w ds words₀)
+
+-- there is one
+pub taper : Taper
+taper = record { call = λ w ds words₀. tape-kept-by w ds words₀ .0; keeps = λ w ds words₀. tape-kept-by w ds words₀ .1 }
 
 -- a lent buffer of seven words, none of them a step
 words-lent : List ℕ
 words-lent = replicate 7 9
 
 module _ (t : Taper) where
-  -- what it does with the strings of P2 and P5
+  -- what it does with the string of P2
   thirteen : Taping.Outcome
   thirteen = t .call 2 (pos 1 ∷ pos 0 ∷ negsuc 0 ∷ pos 0 ∷ pos 1 ∷ replicate 4 (pos 0)) words-lent
 
   thirteen-taped : Written (0x1000 ∷ 0 ∷ 0 ∷ 0x4000 ∷ 0 ∷ 0 ∷ 0x3000 ∷ []) 4 2 words-lent thirteen
   unfolding words-lent thirteen
   thirteen-taped = taped 2 _ _ 1000 7 91 4 2 (7 ∷ []) eleventh words-lent (lit≤ tt) _ (t .keeps 2 _ words-lent)
-
-  forty-two : Taping.Outcome
-  forty-two = t .call 3 (pos 0 ∷ negsuc 2 ∷ pos 0 ∷ pos 0 ∷ pos 3 ∷ replicate 4 (pos 0)) words-lent
-
-  forty-two-taped : Written (0x1001 ∷ 0 ∷ 0 ∷ 0 ∷ 0x4001 ∷ 0 ∷ []) 4 1 words-lent forty-two
-  unfolding words-lent forty-two
-  forty-two-taped = taped 3 _ _ 10 9 8 4 1 (9 ∷ 7 ∷ []) twelfth words-lent (lit≤ tt) _ (t .keeps 3 _ words-lent)
 
   -- refusing everything
   pub tape-not-refusing : ((w : ℕ) (ds : List ℤ) (words₀ : List ℕ) → t .call w ds words₀ .taped .refusal ≢ 0) → ⊥
@@ -167,45 +184,31 @@ module _ (t : Taper) where
       let z : _≡_ {A = ℕ} 2 3 = sym (ap (λ (x : Taped). x .additions) T) ∙ r 2 _ words-lent (ap (λ (x : Taped). x .refusal) T) in
       omega arith
 
-  -- the empty string's tape is accepted and has no doubling
-  empty-taped : t .call 2 [] [] .taped .refusal ≡ 0
-  unfolding tapeOf
-  empty-taped =
-      first-only (tapeRules 2 [] 0) (tape-tells 2 [] 0) _ _ 0 0 (t .keeps 2 [] [] .first)
-      (none-first (tapeRules 2 [] 0) (width-fine (lit≤ tt, lit≤ tt), (not-plain (λ h. omega arith), ((λ p h. omega (arith, h .0 .within)), (not-plain (λ h. omega arith), tt))))) .0
-
-  -- doublings that do not depend on the string
-  pub tape-not-inventing-doublings : (doubled : ℕ) → ((w : ℕ) (ds : List ℤ) (words₀ : List ℕ) → t .call w ds words₀ .taped .refusal ≡ 0 → t .call w ds words₀ .taped .doublings ≡ doubled) → ⊥
-  unfolding top thirteen
-  tape-not-inventing-doublings doubled r =
-      let A = thirteen-taped .taped-is in
-      let a = r 2 _ words-lent (ap (λ (x : Taped). x .refusal) A) in
-      let b = r 2 [] [] empty-taped in
-      omega (arith, a, b, ap (λ (x : Taped). x .doublings) A, t .keeps 2 [] [] .doublings-are ∙ ap (λ x. granted x 0) empty-taped)
-
-  -- additions that do not depend on the string
-  pub tape-not-inventing-additions : (added : ℕ) → ((w : ℕ) (ds : List ℤ) (words₀ : List ℕ) → t .call w ds words₀ .taped .refusal ≡ 0 → t .call w ds words₀ .taped .additions ≡ added) → ⊥
-  unfolding thirteen forty-two
-  tape-not-inventing-additions added r =
-      let A = thirteen-taped .taped-is in
-      let B = forty-two-taped .taped-is in
-      let a = r 2 _ words-lent (ap (λ (x : Taped). x .refusal) A) in
-      let b = r 3 _ words-lent (ap (λ (x : Taped). x .refusal) B) in
-      omega (arith, a, b, ap (λ (x : Taped). x .additions) A, ap (λ (x : Taped). x .additions) B)
+  -- invented counts: at no accepted input is the report another than the counts of the words that are written
+  pub tape-not-inventing : (w : ℕ) (ds : List ℤ) (words₀ : List ℕ) → let o = t .call w ds words₀ in
+      o .taped .refusal ≡ 0 → (o .taped .doublings ≢ doublings (take (o .taped .words) (o .words))) ⊎ (o .taped .additions ≢ additions (take (o .taped .words) (o .words))) → ⊥
+  tape-not-inventing w ds words₀ z (inl n) = let (a, b) = taped-doublings (t .call w ds words₀) (t .keeps w ds words₀) z in n (a ∙ sym b)
+  tape-not-inventing w ds words₀ z (inr n) = let (a, b) = taped-additions (t .call w ds words₀) (t .keeps w ds words₀) z in n (a ∙ sym b)
 
 pub record Runner : Type 0 where
   pub call : (w : ℕ) (ws : List ℕ) (m g : ℕ) (multiples₀ : List ℕ) → Ran
   pub multiples : (w : ℕ) (ws : List ℕ) (m g : ℕ) (multiples₀ : List ℕ) → List ℕ
   pub keeps : (w : ℕ) (ws : List ℕ) (m g : ℕ) (multiples₀ : List ℕ) → Promise w ws m g multiples₀ (call w ws m g multiples₀) (multiples w ws m g multiples₀)
 
+-- there is one
+pub runner : Runner
+runner =
+    record {
+      call = λ w ws m g multiples₀. run-kept-by w ws m g multiples₀ .0;
+      multiples = λ w ws m g multiples₀. run-kept-by w ws m g multiples₀ .1;
+      keeps = λ w ws m g multiples₀. run-kept-by w ws m g multiples₀ .2;
+    }
+
 module _ (c : Runner) where
-  -- what it does with the tapes of P11 and P12
+  -- what it does with the tape of P11
   thirteen-ran : (c .call 2 (0x1000 ∷ 0 ∷ 0 ∷ 0x4000 ∷ 0 ∷ 0 ∷ 0x3000 ∷ []) 1000 7 (9 ∷ []) ≡ record { outcome = Residue 91; doublings = 4; additions = 2; cost = 0 })
       × (c .multiples 2 (0x1000 ∷ 0 ∷ 0 ∷ 0x4000 ∷ 0 ∷ 0 ∷ 0x3000 ∷ []) 1000 7 (9 ∷ []) ≡ 7 ∷ [])
   thirteen-ran = ran 2 _ _ 1000 7 91 4 2 (7 ∷ []) eleventh (9 ∷ []) (lit≤ tt) _ _ (c .keeps 2 _ 1000 7 (9 ∷ []))
-
-  forty-two-ran : c .call 3 (0x1001 ∷ 0 ∷ 0 ∷ 0 ∷ 0x4001 ∷ 0 ∷ []) 10 9 (9 ∷ 9 ∷ []) ≡ record { outcome = Residue 8; doublings = 4; additions = 1; cost = 1 }
-  forty-two-ran = ran 3 _ _ 10 9 8 4 1 (9 ∷ 7 ∷ []) twelfth (9 ∷ 9 ∷ []) (lit≤ tt) _ _ (c .keeps 3 _ 10 9 (9 ∷ 9 ∷ [])) .0
 
   -- refusing everything
   pub run-not-refusing : ((w : ℕ) (ws : List ℕ) (m g : ℕ) (multiples₀ : List ℕ) → refusalOf (c .call w ws m g multiples₀ .outcome) ≢ 0) → ⊥
@@ -219,32 +222,11 @@ module _ (c : Runner) where
   pub run-not-storing : (w : ℕ) (ws : List ℕ) (m g : ℕ) (multiples₀ : List ℕ) → refusalOf (c .call w ws m g multiples₀ .outcome) ≢ 0 → c .multiples w ws m g multiples₀ ≢ multiples₀ → ⊥
   run-not-storing w ws m g multiples₀ n h = h (c .keeps w ws m g multiples₀ .run .multiples-are ∙ kept-lent (refusalOf (c .call w ws m g multiples₀ .outcome)) _ multiples₀ n)
 
-  -- the empty tape is accepted and has no doubling
-  empty-ran : refusalOf (c .call 2 [] 5 1 (9 ∷ []) .outcome) ≡ 0
-  empty-ran =
-      first-only (runRules 2 [] 5 1) (run-tells 2 [] 5 1) _ _ 0 0 (c .keeps 2 [] 5 1 (9 ∷ []) .run .first)
-      (none-first (runRules 2 [] 5 1)
-      (width-fine (lit≤ tt, lit≤ tt), (not-plain (λ h. omega arith), (not-plain (λ h. omega arith), (not-plain (λ h. omega arith), ((λ p h. omega (arith, h .0 .within)), tt)))))) .0
-
-  -- doublings that do not depend on the tape
-  pub run-not-inventing-doublings : (doubled : ℕ)
-      → ((w : ℕ) (ws : List ℕ) (m g : ℕ) (multiples₀ : List ℕ) → refusalOf (c .call w ws m g multiples₀ .outcome) ≡ 0 → c .call w ws m g multiples₀ .doublings ≡ doubled) → ⊥
-  unfolding doublings
-  run-not-inventing-doublings doubled r =
-      let A = thirteen-ran .0 in
-      let a = r 2 _ 1000 7 (9 ∷ []) (ap (λ (x : Ran). refusalOf (x .outcome)) A) in
-      let b = r 2 [] 5 1 (9 ∷ []) empty-ran in
-      omega (arith, a, b, ap (λ (x : Ran). x .doublings) A, c .keeps 2 [] 5 1 (9 ∷ []) .run .doublings-are ∙ ap (λ x. granted x 0) empty-ran)
-
-  -- additions that do not depend on the tape
-  pub run-not-inventing-additions : (added : ℕ)
-      → ((w : ℕ) (ws : List ℕ) (m g : ℕ) (multiples₀ : List ℕ) → refusalOf (c .call w ws m g multiples₀ .outcome) ≡ 0 → c .call w ws m g multiples₀ .additions ≡ added) → ⊥
-  run-not-inventing-additions added r =
-      let A = thirteen-ran .0 in
-      let B = forty-two-ran in
-      let a = r 2 _ 1000 7 (9 ∷ []) (ap (λ (x : Ran). refusalOf (x .outcome)) A) in
-      let b = r 3 _ 10 9 (9 ∷ 9 ∷ []) (ap (λ (x : Ran). refusalOf (x .outcome)) B) in
-      omega (arith, a, b, ap (λ (x : Ran). x .additions) A, ap (λ (x : Ran). x .additions) B)
+  -- invented counts: at no accepted input is the report another than the counts of the tape's words
+  pub run-not-inventing : (w : ℕ) (ws : List ℕ) (m g : ℕ) (multiples₀ : List ℕ) → let r = c .call w ws m g multiples₀ in
+      refusalOf (r .outcome) ≡ 0 → (r .doublings ≢ doublings ws) ⊎ (r .additions ≢ additions ws) → ⊥
+  run-not-inventing w ws m g multiples₀ z (inl n) = n (c .keeps w ws m g multiples₀ .run .doublings-are ∙ granted-all _ (doublings ws) z)
+  run-not-inventing w ws m g multiples₀ z (inr n) = n (c .keeps w ws m g multiples₀ .run .additions-are ∙ granted-all _ (additions ws) z)
 
   -- the modulus looked at before the width
   pub run-not-swapped : ((w : ℕ) (ws : List ℕ) (g : ℕ) (multiples₀ : List ℕ) → refusalOf (c .call w ws 0 g multiples₀ .outcome) ≡ 12) → ⊥
@@ -277,6 +259,13 @@ not-two L = let z : _≡_ {A = ℕ} 1 2 = ap natAbs (L .worth-is) in omega arith
 pub record Checker (rules : (w : ℕ) (s : List ℕ) (ds : List ℤ) → List Rule) : Type 0 where
   pub call : (w : ℕ) (s : List ℕ) (ds : List ℤ) → Verdict
   pub keeps : (w : ℕ) (s : List ℕ) (ds : List ℤ) → Checking.Keeps (rules w s ds) ds (call w s ds)
+
+-- there is one of either kind
+pub checker : Checker checkRules
+checker = record { call = λ w s ds. check-kept-by w s ds .0; keeps = λ w s ds. check-kept-by w s ds .1 }
+
+pub nonadjacent-checker : Checker nonadjacentRules
+nonadjacent-checker = record { call = λ w s ds. nonadjacent-kept-by w s ds .0; keeps = λ w s ds. nonadjacent-kept-by w s ds .1 }
 
 -- refusing everything
 pub check-not-refusing : (c : Checker checkRules) → ((w : ℕ) (s : List ℕ) (ds : List ℤ) → c .call w s ds .refusal ≢ 0) → ⊥

@@ -1,14 +1,20 @@
--- The promise of tape: two outcomes that satisfy it for one input are equal. Assumes nothing.
-use mathlib.Core.Path.{_≡_, sym, ap, _∙_}
+-- The promise of tape: two outcomes that satisfy it for one input are equal; and a word that is decoded encodes to itself, unless it is bad. Assumes nothing.
+use mathlib.Core.Path.{_≡_, refl, sym, ap, _∙_}
+use mathlib.Core.Logic.{_≢_}
 use mathlib.Core.List.{List, _++_}
 use Prim.Native.Nat.{ℕ, _-_}
+use native.Mathlib.Omega.{arith}
 use lib.IntN.{ℤ}
 use lib.ListN.{length, drop}
 use Rattle.meaning.specs.Digits.{weight, top}
 use Rattle.meaning.specs.Refusals.{granted, kept}
-use Rattle.meaning.specs.Taping.{tapeOf, tapeRules, Tape}
+use Rattle.meaning.specs.Taping.{codeOf, entryOf, tapeOf, tapeRules, Tape}
 use Rattle.forms.proofs.Refusals.{first-only}
 use Rattle.tape.specs.declared.Taped.{Taped}
+use Rattle.tape.specs.declared.Step.{Step}
+use Rattle.tape.specs.declared.Step.the-variants.{Double, Load, Add, Bad}
+use Rattle.tape.specs.Steps.{stepOf, wordOf, Coded}
+use Rattle.tape.proofs.Steps.{Says, step-says}
 use Rattle.promises.proofs.Rules.{tape-tells}
 
 -- what a call leaves: the struct that it returns, and the buffer
@@ -41,3 +47,14 @@ tape-determined w ds words₀ o o′ K K′ =
     (K .doublings-are ∙ ap (λ x. granted x (top ds - 1)) r ∙ sym (K′ .doublings-are))
     (K .additions-are ∙ ap (λ x. granted x (weight ds - 1)) r ∙ sym (K′ .additions-are))
     (K .words-are ∙ ap (λ x. kept x (tapeOf ds ++ drop (length (tapeOf ds)) words₀) words₀) r ∙ sym (K′ .words-are))
+
+-- ---- words
+-- a word is the word of its step, by the numbers that `wordOf` gives each case; and that step can be encoded
+pub decoded-back : (x : ℕ) → stepOf x ≢ Bad → Coded (stepOf x) × (wordOf (stepOf x) ≡ x)
+decoded-back x n = go (stepOf x) (step-says x) n
+  where
+    go : (t : Step) → Says t (codeOf x) (entryOf x) → t ≢ Bad → Coded t × (wordOf t ≡ x)
+    go Double (c, e) n = (tt, omega arith)
+    go (Load m) (c, e) n = (omega arith, omega arith)
+    go (Add m) (c, e) n = (omega arith, omega arith)
+    go Bad h n = absurd (n refl)
