@@ -8,7 +8,7 @@ ghost use Prim.Native.Nat.{_≤_};
 ghost use lib.ListN.{length};
 ghost use Rattle.lines.specs.Answered.{Lent};
 ghost use Rattle.stream.specs.Streams.{mostKept};
-ghost use Rattle.recode.specs.Pours.{Pours};
+ghost use Rattle.recode.specs.Pours.{Pours, Takes};
 
 // How much is kept of the line that has not ended, and whether to go on: not past the end of the input, and not past a write that failed.
 struct Turn {
@@ -55,7 +55,7 @@ fn take(
 ) -> Turn
     requires { ⌜ (kept ≤ mostKept) × (mostKept ≤ length (now line)) ⌝ }
     requires { ⌜ Lent (now bytes) (now digits) (now marks) (now out) ⌝ }
-    ensures { λ r. ⌜ r .kept ≤ mostKept ⌝ }
+    ensures { λ r. ⌜ Takes (now (line .entry)) kept r (now (input .exit)) (now (line .exit)) ⌝ }
 {
     let got = libc::read(STDIN_FILENO, input);
     let count = io::count(got, input);

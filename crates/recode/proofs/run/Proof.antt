@@ -47,7 +47,7 @@ loop-again c =
         out-length = k .1 .1 .1 .1 .1 .1 .0 ∙ i .0 .out-length;
       },
       k .0 ∙ i .1,
-      w .take .ensures,
+      w .take .ensures .within,
     )
 
 same-length : tie.Need-same-length Inv-loop μ-loop

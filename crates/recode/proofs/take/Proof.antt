@@ -1,7 +1,9 @@
 -- `recode::take` meets its contract: what is written lies within `out`. Assumes nothing.
 use mathlib.Core.Path.{sym}
+use native.Mathlib.Omega.{arith}
 use lib.Seq.{length-take-le}
 use borrow.Author.Needs.{needs}
+use Rattle.laws.proofs.Choices.{true-false}
 use Rattle.recode.proofs.take.Statement.{statement}
 use Rattle.recode.proofs.take.Tie as tie
 
@@ -42,7 +44,7 @@ same-length-6 : tie.Need-same-length-6
 same-length-6 c = search needs
 
 returns : tie.Need-returns
-returns c = search needs
+returns c = record { within = omega arith; keeps = λ e. absurd (true-false (sym e)) }
 
 slice-reshare-prefix-pour : tie.Need-slice-reshare-prefix-pour
 slice-reshare-prefix-pour c = search needs
@@ -72,7 +74,11 @@ same-length-12 : tie.Need-same-length-12
 same-length-12 c = search needs
 
 returns-2 : tie.Need-returns-2
-returns-2 c = search needs
+returns-2 c =
+    let p = c .before .before .before .before .before .before .before .before .before in
+    let n = p .before .before .before .before .before .before .before .before .count in
+    let P = p .pour .ensures in
+    record { within = P .within; keeps = λ e. (n .result, n .ensures .0 .0, P .keeps e) }
 
 pub take-spec : {M : Type 1} → statement M
 take-spec =
