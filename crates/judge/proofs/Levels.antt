@@ -16,7 +16,7 @@ use lib.Seq.{drop-cons}
 use lib.Pow.{shr-shr}
 use Rattle.laws.proofs.Integers.{parts, diffs, ring, same-left}
 use Rattle.meaning.specs.Digits.{worth}
-use Rattle.width.specs.Levels.{Raised}
+use Rattle.signed.specs.Levels.{Raised}
 use Rattle.judge.specs.Levels.{level, Stretch, Level, Turned}
 use Rattle.judge.specs.Tests.{Says}
 use Rattle.judge.specs.declared.Turn.{Turn}

@@ -13,7 +13,8 @@ use Rattle.meaning.specs.Digits.{leastWidth, mostWidth, mostPlaces, worth, weig
 use Rattle.meaning.specs.Refusals.{Rule, lowest, First}
 use Rattle.meaning.specs.Checking.{BadDigit, Crowded, checkRules, nonadjacentRules, Check}
 use Rattle.width.specs.Widths.{Lawful}
-use Rattle.tape.proofs.Refusals.{not-plain, not-below, width-fine}
+use Rattle.width.proofs.Widths.{not-plain, width-fine}
+use Rattle.laws.proofs.Choices.{not-below}
 use Rattle.judge.specs.declared.Verdict.{Verdict}
 
 -- ---- rules after others

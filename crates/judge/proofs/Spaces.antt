@@ -11,7 +11,7 @@ use lib.IntN.{ℤ, ℤ-discrete, pos}
 use lib.ListN.{length, getD, List·getD-eq-default}
 use Rattle.meaning.specs.Refusals.{lowest}
 use Rattle.meaning.specs.Checking.{Crowded}
-use Rattle.tape.proofs.Refusals.{not-below}
+use Rattle.laws.proofs.Choices.{not-below}
 use Rattle.judge.specs.Spaces.{Freed}
 
 -- the digit at place p is not 0

@@ -8,11 +8,11 @@ ghost use Rattle.meaning.specs.Scalars.{number, mostBytes};
 ghost use Rattle.meaning.specs.Digits.{mostPlaces, worth};
 ghost use Rattle.meaning.specs.Checking.{checkRules, nonadjacentRules, Check};
 ghost use Rattle.judge.specs.Tests.{Says};
-ghost use Rattle.width.specs.Levels.{Raised};
+ghost use Rattle.signed.specs.Levels.{Raised};
 ghost use Rattle.judge.specs.Levels.{level, Stretch, Turned};
 ghost use Rattle.judge.specs.Spaces.{Freed, Spacing};
+use digits::Found;
 use scalar::MOST_BYTES;
-use tape::Found;
 use width::Known;
 use width::Width;
 
@@ -33,7 +33,7 @@ fn digit_at(digits: &[i8], i: usize) -> u32
     ensures { λ r. ⌜ Raised level (getD (now (digits .entry)) i (pos 0)) r ⌝ }
 {
     if i < digits.len() {
-        width::raised(digits[i], LEVEL)
+        signed::raised(digits[i], LEVEL)
     } else {
         LEVEL
     }
@@ -162,7 +162,7 @@ pub fn check(width: u8, scalar: &[u8], digits: &[i8]) -> Verdict
     if Width::MOST_PLACES < digits.len() {
         return refused(7, 0);
     }
-    match tape::scan(known, digits) {
+    match digits::scan(known, digits) {
         Found::Bad(place) => refused(8, place as u16),
         Found::Sound(count) => {
             if !worth_is(scalar, digits) {

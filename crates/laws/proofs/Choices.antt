@@ -2,7 +2,9 @@
 use mathlib.Core.Path.{_≡_, refl, subst}
 use mathlib.Core.Logic.{_≢_, _⊎_, inl, inr}
 use mathlib.Core.Bool.{Bool, true, false, not, cond, _&&_, _||_}
-use Prim.Native.Nat.{ℕ}
+use Prim.Native.Nat.{ℕ, _<_, _≤_}
+use native.Mathlib.Decide.{decLe}
+use native.Mathlib.Omega.{arith}
 use lib.Dec.{T, eqb, eqb→eq, eqb-refl, T-not, not-T}
 
 -- what holds of both ways holds of the choice
@@ -58,3 +60,11 @@ not-equal a b n = not-T (eqb a b) (λ t. n (eqb→eq a b t))
 -- the two outcomes of a test are different
 pub true-false : true ≡ false → ⊥
 true-false e = subst T e tt
+
+-- what is not below is at least
+pub not-below : {a b : ℕ} → (a < b → ⊥) → b ≤ a
+not-below {a} {b} n = go (decLe b a)
+  where
+    go : Dec (b ≤ a) → b ≤ a
+    go (yes h) = h
+    go (no h) = absurd (n (omega arith))

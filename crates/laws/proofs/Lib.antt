@@ -2,6 +2,7 @@
 pub mod Integers
 pub mod Division
 pub mod Powers
+pub mod Shifts
 pub mod Residues
 pub mod Choices
 pub mod Stores

@@ -24,7 +24,7 @@ pub const MOST: usize = DIGITS_AT + 2 * Width::MOST_PLACES + 1;
 fn byte_of(d: i8) -> u8
     ensures { λ r. ⌜ r ≡ byteOf d ⌝ }
 {
-    let size = width::magnitude(d);
+    let size = signed::magnitude(d);
     if d < 0 { 255 - (size - 1) } else { size }
 }
 

@@ -15,7 +15,8 @@ use Rattle.meaning.specs.Checking.{BadDigit, badDigit, Crowded, checkRules, non
 use Rattle.forms.proofs.Refusals.{AllTell, first-only, lowest-none}
 use Rattle.forms.proofs.Strings.{all-in, all-at}
 use Rattle.width.specs.Widths.{Lawful}
-use Rattle.tape.proofs.Refusals.{not-plain, not-below, width-fine, lawful-of}
+use Rattle.laws.proofs.Choices.{not-below}
+use Rattle.width.proofs.Widths.{not-plain, width-fine, lawful-of}
 use Rattle.judge.specs.declared.Verdict.{Verdict}
 use Rattle.promises.proofs.Rules.{check-tells, nonadjacent-tells, check-rises, nonadjacent-rises}
 use Rattle.promises.proofs.Exactly.{None, none-first, first-none}

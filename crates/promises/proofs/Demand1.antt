@@ -20,7 +20,7 @@ use Rattle.meaning.specs.Lines.{malformed, formOf, widthOf, scalarOf, lineRules
 use Rattle.forms.proofs.Refusals.{kept-lent}
 use Rattle.forms.proofs.Forms.{form-exists}
 use Rattle.scalar.proofs.Bytes.{Bytes, number-lt}
-use Rattle.tape.proofs.Refusals.{not-below}
+use Rattle.laws.proofs.Choices.{not-below}
 use Rattle.judge.specs.declared.Verdict.{Verdict}
 use Rattle.run.specs.declared.Ran.{Ran}
 use Rattle.run.specs.Outcomes.{refusalOf, placeOf, Promise}

@@ -29,7 +29,7 @@ use Rattle.run.specs.declared.Outcome.the-variants.{Residue}
 use Rattle.run.specs.Outcomes.{refusalOf, Promise}
 use Rattle.search.specs.declared.Searched.{Searched}
 use Rattle.judge.specs.declared.Verdict.{Verdict}
-use Rattle.tape.proofs.Refusals.{width-fine, not-plain}
+use Rattle.width.proofs.Widths.{width-fine, not-plain}
 use Rattle.promises.proofs.Rules.{recode-tells, check-tells, tape-tells, run-tells, search-tells, line-tells}
 use Rattle.promises.proofs.Recode as Recoding
 use Rattle.promises.proofs.Recode.{recode-determined}

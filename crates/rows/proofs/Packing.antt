@@ -17,7 +17,7 @@ use mir.Facts.{toZ-ofZ}
 use Rattle.laws.proofs.Integers.{minus, diffs, ring, same-left}
 use Rattle.laws.proofs.Signed.{plain-is}
 use Rattle.meaning.specs.Windows.{tableLength}
-use Rattle.width.specs.Levels.{Raised}
+use Rattle.signed.specs.Levels.{Raised}
 use Rattle.table.specs.Tables.{Table}
 use Rattle.rows.specs.Reading.{Entry, Row}
 

@@ -30,7 +30,7 @@ fn eight(entries: &[i8; ENTRIES], row: usize, from: usize) -> u64
     let mut word: u64 = 0;
     let mut at = from;
     while at < from + ROW {
-        word = 256 * word + (width::raised(entries[at], LEVEL) as u64);
+        word = 256 * word + (signed::raised(entries[at], LEVEL) as u64);
         at += 1;
     }
     word

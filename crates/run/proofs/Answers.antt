@@ -13,7 +13,7 @@ use Rattle.meaning.specs.Taping.{mostWords, entryOf, multiple, tapeValue}
 use Rattle.meaning.specs.Running.{entries, Good, BadWord, runRules, multiplesOf}
 use Rattle.meaning.specs.Running as Running
 use Rattle.width.specs.Widths.{Lawful}
-use Rattle.tape.proofs.Refusals.{not-plain, width-fine}
+use Rattle.width.proofs.Widths.{not-plain, width-fine}
 use Rattle.run.specs.declared.Outcome.the-variants.{Residue}
 use Rattle.run.specs.declared.Ran.{Ran}
 use Rattle.run.specs.declared.State.{State}

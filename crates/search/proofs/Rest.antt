@@ -16,7 +16,7 @@ use Rattle.meaning.specs.Running.{entries}
 use Rattle.meaning.specs.Searching.{Spells}
 use Rattle.forms.proofs.Strings.{nonzero-one}
 use Rattle.width.specs.Widths.{Lawful}
-use Rattle.width.proofs.Shifts.{doubled}
+use Rattle.laws.proofs.Shifts.{doubled}
 use Rattle.search.specs.Within.{mostNumber, Positive}
 
 -- ---- digits

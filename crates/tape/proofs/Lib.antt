@@ -1,6 +1,5 @@
 -- Laws of words, strings and tapes that the calls cite.
 pub mod Steps
-pub mod Scans
 pub mod Lengths
 pub mod Tapes
 pub mod Writes

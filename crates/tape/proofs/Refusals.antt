@@ -1,43 +1,28 @@
 -- The rules of the call: which of them is the first that applies, what the call then answers, and what an accepted string is.
 -- Assumes nothing.
 use mathlib.Core.Path.{_≡_, refl, sym, ap, _∙_, subst}
-use mathlib.Core.Logic.{_⊎_, inl, inr, ⊎-elim}
+use mathlib.Core.Logic.{_⊎_, inl, inr}
 use mathlib.Core.Bool.{Bool, true, false, not}
 use mathlib.Core.List.{List, _++_}
 use Prim.Native.Nat.{ℕ, suc, _+_, _-_, _<_, _≤_}
 use native.Mathlib.Omega.{arith}
-use native.Mathlib.Decide.{decLe}
 use lib.Dec.{T}
 use lib.IntN.{ℤ, pos}
 use lib.ListN.{length, getD, take, drop}
 use lib.Seq.{take-append-seam}
+use Rattle.laws.proofs.Choices.{not-below}
 use Rattle.forms.proofs.Refusals.{lowest-none, granted-all, kept-written}
 use Rattle.forms.proofs.Strings.{all-in}
 use Rattle.meaning.specs.Digits.{leastWidth, mostWidth, mostPlaces, largest, inSet, allIn}
-use Rattle.meaning.specs.Refusals.{plain, lowest, First, badWidth}
+use Rattle.meaning.specs.Refusals.{plain, lowest, First}
 use Rattle.meaning.specs.Checking.{BadDigit}
 use Rattle.meaning.specs.Taping.{tapeOf, tapeRules, Tape}
 use Rattle.width.specs.Widths.{Lawful}
+use Rattle.width.proofs.Widths.{not-plain, width-fine, lawful-of}
 use Rattle.tape.specs.declared.Taped.{Taped}
-use Rattle.tape.specs.declared.Count.{Count}
-use Rattle.tape.specs.Scans.{Whole}
+use Rattle.digits.specs.declared.Count.{Count}
+use Rattle.digits.specs.Scans.{Whole}
 use Rattle.tape.proofs.Lengths.{tape-length}
-
--- a rule whose condition fails applies at no place
-pub not-plain : {C : Type 0} → (C → ⊥) → (q : ℕ) → plain C q → ⊥
-not-plain n q h = n (h .0)
-
--- what is not below is at least
-pub not-below : {a b : ℕ} → (a < b → ⊥) → b ≤ a
-not-below {a} {b} n = go (decLe b a)
-  where
-    go : Dec (b ≤ a) → b ≤ a
-    go (yes h) = h
-    go (no h) = absurd (n (omega arith))
-
--- a lawful width is not refused
-pub width-fine : {w : ℕ} → Lawful w → (q : ℕ) → badWidth w .1 q → ⊥
-width-fine (l, m) = not-plain (⊎-elim (λ h. omega arith) (λ h. omega arith))
 
 module _ (w : ℕ) (ds : List ℤ) (words₀ : List ℕ) where
   -- r and p are what the rules of the call give
@@ -123,10 +108,6 @@ pub record Accepted (w : ℕ) (ds : List ℤ) (words₀ : List ℕ) : Type 0 whe
 passes : (b : Bool) → (T (not b) → ⊥) → T b
 passes true n = tt
 passes false n = absurd (n tt)
-
--- a width that is not refused is lawful
-pub lawful-of : (w : ℕ) → ((q : ℕ) → badWidth w .1 q → ⊥) → Lawful w
-lawful-of w n = (not-below (λ h. n 0 (inl h, refl)), not-below (λ h. n 0 (inr h, refl)))
 
 module _ {w : ℕ} {ds : List ℤ} {words₀ words : List ℕ} {r p count doubled added : ℕ} (t : Tape w ds words₀ r p count doubled added words) (z : r ≡ 0) where
   -- no rule applied to it

@@ -12,7 +12,7 @@ use lib.Pow.{pow-pos, pow-mono}
 use lib.ListN.{length, getD}
 use Rattle.laws.proofs.Choices.{and-both, or-either}
 use Rattle.width.specs.Widths.{Lawful}
-use Rattle.width.proofs.Shifts.{doubled}
+use Rattle.laws.proofs.Shifts.{doubled}
 use Rattle.forms.proofs.Strings.{nonzero-le, over-none, over-some}
 use Rattle.meaning.specs.Digits.{largest, inSet, allIn, worth, nonzero, weight, over, top}
 use Rattle.meaning.specs.Taping.{word, codeOf, entryOf, double, multiple, entry, loads, adds, down, tapeOf, stepped, valueFrom, tapeValue, isDouble, isAddition, doublings, additions}

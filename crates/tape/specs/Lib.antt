@@ -1,4 +1,3 @@
 -- What the contracts of this crate cite beside `meaning`.
 pub mod Steps
-pub mod Scans
 pub mod Places

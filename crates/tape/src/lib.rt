@@ -1,16 +1,15 @@
-// The step tape of a digit string: a word and the step that it decodes to, a scan of the string, and the call `tape`.
+// The step tape of a digit string: a word and the step that it decodes to, and the call `tape`.
 ghost use mathlib.Core.Path.{_≡_};
 ghost use mathlib.Core.Logic.{_≢_};
 ghost use mathlib.Core.List.{_++_};
-ghost use Prim.Native.Nat.{_+_, _-_, _^_, _≤_, _<_};
+ghost use Prim.Native.Nat.{_+_, _-_, _≤_, _<_};
 ghost use lib.IntN.{pos};
 ghost use lib.ListN.{length, drop};
 ghost use Rattle.meaning.specs.Digits.{nonzero, top};
 ghost use Rattle.meaning.specs.Taping.{word, tapeOf, Tape};
-ghost use Rattle.width.specs.Widths.{Lawful};
 ghost use Rattle.tape.specs.Steps.{minus, stepOf, wordOf, Coded, moveOf};
-ghost use Rattle.tape.specs.Scans.{Counted, Scan};
 ghost use Rattle.tape.specs.Places.{Lowered};
+use digits::Found;
 use width::Known;
 use width::Width;
 
@@ -94,7 +93,7 @@ fn move_of(digit: i8) -> Move
     requires { ⌜ digit ≢ pos 0 ⌝ }
     ensures { λ r. ⌜ r ≡ moveOf digit ⌝ }
 {
-    let entry = ((width::magnitude(digit) - 1) / 2) as u16;
+    let entry = ((signed::magnitude(digit) - 1) / 2) as u16;
     if digit < 0 {
         return Move {
             entry,
@@ -105,50 +104,6 @@ fn move_of(digit: i8) -> Move
         entry,
         sign: Sign::Plus,
     }
-}
-
-// ---- a scan
-// The weight and the top of a string.
-pub struct Count {
-    pub weight: usize,
-    pub top: usize,
-}
-
-// What a scan finds: the lowest place whose digit the width does not have, or the counts of a string whose digits it has all.
-pub enum Found {
-    Bad(usize),
-    Sound(Count),
-}
-
-// The counts with one more place on top.
-fn counted(count: Count, place: usize, digit: i8) -> Count
-    requires { ⌜ (count .weight ≤ place) × (place + 1 < 2 ^ 64) ⌝ }
-    ensures { λ r. ⌜ Counted count place digit r ⌝ }
-{
-    if digit == 0 {
-        return count;
-    }
-    Count {
-        weight: count.weight + 1,
-        top: place + 1,
-    }
-}
-
-pub fn scan(width: Width, digits: &[i8]) -> Found
-    requires { ⌜ Lawful (width .bits) ⌝ }
-    ensures { λ r. ⌜ Scan (width .bits) (now (digits .entry)) r ⌝ }
-{
-    let mut count = Count { weight: 0, top: 0 };
-    let mut i = 0;
-    while i < digits.len() {
-        let digit = digits[i];
-        if !width.holds(digit) {
-            return Found::Bad(i);
-        }
-        count = counted(count, i, digit);
-        i += 1;
-    }
-    Found::Sound(count)
 }
 
 // ---- the call
@@ -221,7 +176,7 @@ pub fn tape(width: u8, digits: &[i8], words: &mut [u16]) -> Taped
     if Width::MOST_PLACES < digits.len() {
         return refused(7, 0);
     }
-    match scan(known, digits) {
+    match digits::scan(known, digits) {
         Found::Bad(place) => refused(8, place as u16),
         Found::Sound(count) => {
             let doublings = without(count.top, 1);

@@ -25,7 +25,7 @@ pub fn number(x: u64, bytes: usize, at: usize, out: &mut [u8]) -> usize
 
 // A digit as a byte, in two's complement: a size below nought is taken from 0, and what is too little wraps.
 fn byte_of(d: i8) -> u8 {
-    let size = width::magnitude(d);
+    let size = signed::magnitude(d);
     if d < 0 {
         std::num::wrapping_sub_u8(0, size)
     } else {

@@ -36,7 +36,7 @@ fn digit(d: i8) {
     } else {
         text(b" ");
     }
-    number(width::magnitude(d) as u64);
+    number(signed::magnitude(d) as u64);
 }
 
 // The digits under `top`, the highest first.

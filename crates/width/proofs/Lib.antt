@@ -1,5 +1,3 @@
--- Laws of the width type that its callers cite, and of the shifts in its own code.
+-- Laws of the width type that its callers cite, and of the test of a digit in its own code.
 pub mod Widths
-pub mod Shifts
 pub mod Sets
-pub mod Raises

@@ -1,13 +1,15 @@
 -- What is known of the width that a byte was found to be, and of a byte that is none.
 -- Assumes nothing.
 use mathlib.Core.Path.{_≡_, refl, sym, ap, _∙_}
-use mathlib.Core.Logic.{_⊎_, inl, inr}
+use mathlib.Core.Logic.{_⊎_, inl, inr, ⊎-elim}
 use mathlib.Core.Bool.{Bool, true, false, cond, _&&_}
 use Prim.Native.Nat.{ℕ, _≤_, _<_}
 use native.Mathlib.Omega.{arith}
 use borrow.Author.Tests.{leb-true, leb-false, le-leb, lt-leb}
 use lib.Dec.{leb}
+use Rattle.laws.proofs.Choices.{not-below}
 use Rattle.meaning.specs.Digits.{leastWidth, mostWidth}
+use Rattle.meaning.specs.Refusals.{plain, badWidth}
 use Rattle.width.specs.declared.Width.{Width}
 use Rattle.width.specs.declared.Known.{Known}
 use Rattle.width.specs.declared.Known.the-variants.{As, Nothing}
@@ -67,3 +69,16 @@ above-most l h = simp (le-leb _ _ l, lt-leb _ _ h)
 pub between : {byte : ℕ} → Lawful byte → As (record { bits = byte }) ≡ knownOf byte
 unfolding knownOf
 between h = simp (le-leb _ _ (h .0), le-leb _ _ (h .1))
+
+-- ---- the rule of a bad width
+-- a rule whose condition fails applies at no place
+pub not-plain : {C : Type 0} → (C → ⊥) → (q : ℕ) → plain C q → ⊥
+not-plain n q h = n (h .0)
+
+-- a lawful width is not refused
+pub width-fine : {w : ℕ} → Lawful w → (q : ℕ) → badWidth w .1 q → ⊥
+width-fine (l, m) = not-plain (⊎-elim (λ h. omega arith) (λ h. omega arith))
+
+-- and one that is not refused is lawful
+pub lawful-of : (w : ℕ) → ((q : ℕ) → badWidth w .1 q → ⊥) → Lawful w
+lawful-of w n = (not-below (λ h. n 0 (inl h, refl)), not-below (λ h. n 0 (inr h, refl)))

@@ -1,3 +1,2 @@
 -- What the contracts of the width type say.
 pub mod Widths
-pub mod Levels

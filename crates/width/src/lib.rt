@@ -1,14 +1,12 @@
 // The width of a recoding, with everything that depends on it alone: the limits of widths, strings and tapes, the digit set, and where its windows start
 // in the table. Every call gets its width from a raw byte by `known` and by nothing else.
 ghost use mathlib.Core.Path.{_≡_};
-ghost use Prim.Native.Nat.{_+_, _-_, _^_, _≤_, max};
-ghost use lib.IntN.{natAbs};
+ghost use Prim.Native.Nat.{_+_, _-_, _^_, max};
 ghost use Rattle.meaning.specs.Digits.{leastWidth, mostWidth, mostPlaces, inSet, largest};
 ghost use Rattle.meaning.specs.Taping.{mostWords};
 ghost use Rattle.meaning.specs.Windows.{tableStart};
 ghost use Rattle.meaning.specs.Running.{entries};
 ghost use Rattle.width.specs.Widths.{Lawful, Limits, knownOf};
-ghost use Rattle.width.specs.Levels.{Raised};
 
 // How many bits a digit has, its sign included.
 pub struct Width {
@@ -82,7 +80,7 @@ impl Width {
     {
         let b = self.bits;
         let half = 1u8 << (b - 1);
-        let size = some(magnitude(d));
+        let size = some(signed::magnitude(d));
         if size % 2 == 1 { size < half } else { false }
     }
 
@@ -96,27 +94,9 @@ impl Width {
     }
 }
 
-// The absolute value of a digit. It is widened first: -128 has none among the signed bytes.
-pub fn magnitude(d: i8) -> u8
-    ensures { λ r. ⌜ r ≡ natAbs d ⌝ }
-{
-    if d < 0 {
-        return (0 - (d as i16)) as u8;
-    }
-    d as u8
-}
-
 // A size, or 1 for none.
 fn some(size: u8) -> u8
     ensures { λ r. ⌜ r ≡ max size 1 ⌝ }
 {
     if size == 0 { 1 } else { size }
-}
-
-// A digit kept `level` above what it is, so that it is not below nought.
-pub fn raised(d: i8, level: u32) -> u32
-    requires { ⌜ (128 ≤ level) × (level ≤ 256) ⌝ }
-    ensures { λ r. ⌜ Raised level d r ⌝ }
-{
-    ((d as i32) + (level as i32)) as u32
 }

@@ -11,7 +11,7 @@ use Rattle.meaning.specs.Refusals.{lowest}
 use Rattle.meaning.specs.Checking.{BadDigit}
 use Rattle.width.specs.Widths.{Lawful}
 use Rattle.width.proofs.Widths.{known-bits, known-lawful, known-width, known-bad}
-use Rattle.tape.specs.Scans.{Whole, Scan}
+use Rattle.digits.specs.Scans.{Whole, Scan}
 use Rattle.judge.proofs.Tests.{said, denied}
 use Rattle.judge.proofs.Rules.{refuses, first-2, first-3, first-7, first-8, first-9, first-0}
 use Rattle.judge.proofs.check.Statement.{statement}
@@ -79,7 +79,7 @@ returns-3 c =
 scan-requires : tie.Need-scan-requires
 scan-requires c κs =
     let k = c .before .before .before in
-    known-width _ (k .before .before .known .ensures) (k .known2 .given .1)
+    (known-width _ (k .before .before .known .ensures) (k .known2 .given .1), c .if2 .left)
 
 enum-known-place : tie.Need-enum-known-place
 enum-known-place c = search needs

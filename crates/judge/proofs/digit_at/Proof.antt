@@ -7,7 +7,7 @@ use lib.ListN.{List·getD-eq-default}
 use mir.Syntax.{w8}
 use mir.Facts.{toZ-ofZ}
 use denote.Ref.{now}
-use Rattle.width.specs.Levels.{Raised}
+use Rattle.signed.specs.Levels.{Raised}
 use Rattle.judge.specs.Levels.{level}
 use Rattle.judge.proofs.digit_at.Statement.{statement}
 use Rattle.judge.proofs.digit_at.Tie as tie

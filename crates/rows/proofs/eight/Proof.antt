@@ -8,7 +8,7 @@ use lib.ListN.{getD}
 use denote.Ref.{now}
 use mir.Syntax.{w8}
 use mir.Facts.{toZ-ofZ}
-use Rattle.width.specs.Levels.{Raised}
+use Rattle.signed.specs.Levels.{Raised}
 use Rattle.rows.proofs.Packing.{Packed, packed-none, packed-room, packed-more, packed-row}
 use Rattle.rows.proofs.eight.Statement.{statement}
 use Rattle.rows.proofs.eight.Tie as tie

@@ -8,7 +8,7 @@ use Rattle.meaning.specs.Checking.{BadDigit}
 use Rattle.meaning.specs.Taping.{mostWords, tapeOf}
 use Rattle.width.specs.Widths.{Lawful}
 use Rattle.width.proofs.Widths.{known-bits, known-lawful, known-width, known-bad}
-use Rattle.tape.specs.Scans.{Whole, Scan}
+use Rattle.digits.specs.Scans.{Whole, Scan}
 use Rattle.tape.proofs.Lengths.{tape-fits}
 use Rattle.tape.proofs.Refusals.{refuses-width, refuses-long, refuses-bad, refuses-room, needed-is, accepts}
 use borrow.Author.Needs.{needs}
@@ -76,7 +76,7 @@ returns-2 c =
 scan-requires : tie.Need-scan-requires
 scan-requires c κs =
     let k = c .before .before in
-    known-width _ (k .before .before .known .ensures) (k .known2 .given .1)
+    (known-width _ (k .before .before .known .ensures) (k .known2 .given .1), c .if1 .left)
 
 enum-known-place : tie.Need-enum-known-place
 enum-known-place c = search needs

@@ -10,7 +10,7 @@ use lib.IntN.{ℤ, pos, _-ℤ_}
 use lib.Pow.{pow-mono}
 use Rattle.meaning.specs.Digits.{mostWidth}
 use Rattle.meaning.specs.Windows.{windowWorth}
-use Rattle.width.proofs.Shifts.{one-shifted}
+use Rattle.laws.proofs.Shifts.{one-shifted}
 use Rattle.windows.proofs.Sizes.{Sized, double, rise, fall}
 use Rattle.windows.proofs.Digits.{same-parts}
 use Rattle.windows.proofs.work_out.Statement.{statement}

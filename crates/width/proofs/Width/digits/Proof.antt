@@ -3,7 +3,7 @@ use borrow.Author.Needs.{needs}
 use native.Mathlib.Omega.{arith}
 use lib.Pow.{pow-mono}
 use Prim.Native.Nat.{_-_, _^_, _≤_}
-use Rattle.width.proofs.Shifts.{doubled}
+use Rattle.laws.proofs.Shifts.{doubled}
 use Rattle.width.proofs.Width.digits.Statement.{statement}
 use Rattle.width.proofs.Width.digits.Tie as tie
 

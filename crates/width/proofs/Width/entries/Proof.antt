@@ -1,7 +1,7 @@
 -- `width::Width::entries` meets its contract. Assumes nothing.
 use borrow.Author.Needs.{needs}
 use native.Mathlib.Omega.{arith}
-use Rattle.width.proofs.Shifts.{one-shifted}
+use Rattle.laws.proofs.Shifts.{one-shifted}
 use Rattle.width.proofs.Width.entries.Statement.{statement}
 use Rattle.width.proofs.Width.entries.Tie as tie
 

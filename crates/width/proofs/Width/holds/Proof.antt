@@ -6,7 +6,7 @@ use lib.Dec.{ltb}
 use lib.IntN.{natAbs}
 use mir.Facts.{toZ-ofZ}
 use Rattle.width.proofs.Sets.{test-odd, test-even}
-use Rattle.width.proofs.Shifts.{one-shifted}
+use Rattle.laws.proofs.Shifts.{one-shifted}
 use Rattle.width.proofs.Width.holds.Statement.{statement}
 use Rattle.width.proofs.Width.holds.Tie as tie
 

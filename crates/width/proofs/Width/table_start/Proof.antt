@@ -4,7 +4,7 @@ use Prim.Native.Nat.{_-_, _+_, _^_, _≤_}
 use borrow.Author.Needs.{needs}
 use native.Mathlib.Omega.{arith}
 use lib.Pow.{pow-mono}
-use Rattle.width.proofs.Shifts.{two-shifted}
+use Rattle.laws.proofs.Shifts.{two-shifted}
 use Rattle.width.proofs.Width.table_start.Statement.{statement}
 use Rattle.width.proofs.Width.table_start.Tie as tie
 

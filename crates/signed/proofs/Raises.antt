@@ -11,7 +11,7 @@ use mir.Val.{SFits, Fits, toZ, ofZ}
 use mir.Facts.{toZ-ofZ}
 use Rattle.laws.proofs.Integers.{up, dn, parts, diffs, ring}
 use Rattle.laws.proofs.Signed.{cast-fits, plain-is}
-use Rattle.width.specs.Levels.{Raised}
+use Rattle.signed.specs.Levels.{Raised}
 
 -- the parts of a signed byte
 sized : (d : ℤ) → mag d < 128 → (up d < 128) × (dn d ≤ 128)
@@ -28,7 +28,7 @@ module _ (level : ℕ) (low : 128 ≤ level) (high : level ≤ 256) where
       law r e = rw (parts d) (simp diffs (omega ring))
 
   module _ (d : ℤ) (f : SFits w8 d) where
-    -- the digit widened, and added to
+    -- the byte widened, and added to
     abbrev Wide : ℤ
     Wide = toZ w32 (ofZ w32 (toZ w8 (ofZ w8 d)))
 

@@ -1,11 +1,11 @@
--- `width::raised` meets its contract, by the laws of a raised byte. Assumes nothing.
+-- `signed::raised` meets its contract, by the laws of a raised byte. Assumes nothing.
 use borrow.Author.Needs.{needs}
 use lib.Dec.{lit<}
 use mir.Syntax.{w8, w32}
 use Rattle.laws.proofs.Signed.{cast-fits}
-use Rattle.width.proofs.Raises.{sum-fits, sum-good, sum-raised}
-use Rattle.width.proofs.raised.Statement.{statement}
-use Rattle.width.proofs.raised.Tie as tie
+use Rattle.signed.proofs.Raises.{sum-fits, sum-good, sum-raised}
+use Rattle.signed.proofs.raised.Statement.{statement}
+use Rattle.signed.proofs.raised.Tie as tie
 
 cast-result : tie.Need-cast-result
 cast-result c = cast-fits w8 w32 (lit< tt) (lit< tt) _ (c .fits .d)

@@ -1,10 +1,10 @@
--- `width::magnitude` meets its contract, by the laws of a signed number that is widened and taken from 0. Assumes nothing.
+-- `signed::magnitude` meets its contract, by the laws of a signed number that is widened and taken from 0. Assumes nothing.
 use borrow.Author.Needs.{needs}
 use lib.Dec.{lit<}
 use mir.Syntax.{w8, w16}
 use Rattle.laws.proofs.Signed.{cast-fits, minus-fits, minus-good, minus-abs, plain-good}
-use Rattle.width.proofs.magnitude.Statement.{statement}
-use Rattle.width.proofs.magnitude.Tie as tie
+use Rattle.signed.proofs.magnitude.Statement.{statement}
+use Rattle.signed.proofs.magnitude.Tie as tie
 
 cast-result : tie.Need-cast-result
 cast-result c = cast-fits w8 w16 (lit< tt) (lit< tt) _ (c .before .fits .d)

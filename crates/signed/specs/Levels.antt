@@ -1,4 +1,4 @@
--- A digit kept above what it is. Assumes nothing.
+-- A signed byte kept above what it is. Assumes nothing.
 use mathlib.Core.Path.{_≡_}
 use Prim.Native.Nat.{ℕ, _+_, _<_, _≤_}
 use lib.IntN.{ℤ, pos, _+ℤ_}

@@ -1,0 +1,2 @@
+-- Laws of a scan.
+pub mod Scans

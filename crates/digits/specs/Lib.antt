@@ -1,0 +1,2 @@
+-- What the contract of the scan cites beside `meaning`.
+pub mod Scans

@@ -1,0 +1,2 @@
+-- Laws of a raised byte.
+pub mod Raises
