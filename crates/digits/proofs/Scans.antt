@@ -21,17 +21,20 @@ pub flag : {b : Bool} → b ≡ true → T b
 flag e = subst T (sym e) tt
 
 -- ---- one digit more
-swap : (p q r : Bool) → p && (q && r) ≡ q && (p && r)
-swap true q r = refl
-swap false true r = refl
-swap false false r = refl
+and-true : (p : Bool) → p && true ≡ p
+and-true true = refl
+and-true false = refl
 
-all-snoc : (m : ℕ) (ds : List ℤ) (d : ℤ) → allIn m (ds ++ (d ∷ [])) ≡ inSet m d && allIn m ds
+and-assoc : (p q r : Bool) → p && (q && r) ≡ (p && q) && r
+and-assoc true q r = refl
+and-assoc false q r = refl
+
+all-snoc : (m : ℕ) (ds : List ℤ) (d : ℤ) → allIn m (ds ++ (d ∷ [])) ≡ allIn m ds && inSet m d
 unfolding allIn
-all-snoc m [] d = refl
-all-snoc m (x ∷ ds) d = ap (λ b. inSet m x && b) (all-snoc m ds d) ∙ swap (inSet m x) (inSet m d) (allIn m ds)
+all-snoc m [] d = and-true (inSet m d)
+all-snoc m (x ∷ ds) d = ap (λ b. inSet m x && b) (all-snoc m ds d) ∙ and-assoc (inSet m x) (allIn m ds) (inSet m d)
 
-pub all-next : (m : ℕ) (ds : List ℤ) (i : ℕ) → i < length ds → allIn m (take (i + 1) ds) ≡ inSet m (getD ds i (pos 0)) && allIn m (take i ds)
+pub all-next : (m : ℕ) (ds : List ℤ) (i : ℕ) → i < length ds → allIn m (take (i + 1) ds) ≡ allIn m (take i ds) && inSet m (getD ds i (pos 0))
 all-next m ds i h = rw add-one (ap (allIn m) (take-suc ds i (pos 0) h) ∙ all-snoc m (take i ds) (getD ds i (pos 0)))
 
 -- ---- bad digits

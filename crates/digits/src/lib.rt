@@ -3,7 +3,7 @@ ghost use mathlib.Core.Path.{_≡_};
 ghost use mathlib.Core.Bool.{false, _&&_};
 ghost use Prim.Native.Nat.{_≤_};
 ghost use lib.ListN.{length};
-ghost use Rattle.meaning.specs.Digits.{mostPlaces, inSet, largest, allIn, nonzero, weight, top};
+ghost use Rattle.meaning.specs.Digits.{mostPlaces, largest, allIn, nonzero, weight, top};
 ghost use Rattle.meaning.specs.Refusals.{lowest};
 ghost use Rattle.meaning.specs.Checking.{BadDigit};
 ghost use Rattle.width.specs.Widths.{Lawful};
@@ -25,14 +25,14 @@ pub enum Found {
 // ---- all digits
 // The loops of this part run to the string's end whatever they meet, and what they do at a digit is no branch: so a machine takes many digits at a time.
 
-// Whether the width has all digits so far, and this one.
-fn still(all: bool, width: Width, digit: i8) -> bool
-    requires { ⌜ Lawful (width .bits) ⌝ }
-    ensures { λ r. ⌜ r ≡ inSet (largest (width .bits)) digit && all ⌝ }
+// Both of two answers. Each is known before, so there is nothing to leave out.
+pub fn both(a: bool, b: bool) -> bool
+    ensures { λ r. ⌜ r ≡ a && b ⌝ }
 {
-    if width.holds(digit) { all } else { false }
+    if a { b } else { false }
 }
 
+// Whether the width has all digits.
 fn sound(width: Width, digits: &[i8]) -> bool
     requires { ⌜ Lawful (width .bits) ⌝ }
     ensures { λ r. ⌜ r ≡ allIn (largest (width .bits)) (now (digits .entry)) ⌝ }
@@ -40,7 +40,7 @@ fn sound(width: Width, digits: &[i8]) -> bool
     let mut all = true;
     let mut i = 0;
     while i < digits.len() {
-        all = still(all, width, digits[i]);
+        all = both(all, width.holds(digits[i]));
         i += 1;
     }
     all

@@ -1,9 +1,9 @@
 -- A string and a number compared from the lowest places up: what a stretch of places is worth, what one comparison leaves, and how the whole ends.
 -- Assumes nothing.
-use mathlib.Core.Path.{_≡_, sym, ap, _∙_}
+use mathlib.Core.Path.{_≡_, refl, sym, ap, _∙_}
 use mathlib.Core.Logic.{_≢_}
-use mathlib.Core.List.{List}
-use Prim.Native.Nat.{ℕ, suc, _+_, _*_, _-_, _/_, _%_, _^_, _<_, _≤_}
+use mathlib.Core.List.{List, [], _∷_}
+use Prim.Native.Nat.{ℕ, zero, suc, _+_, _*_, _-_, _/_, _%_, _^_, _<_, _≤_}
 use native.Mathlib.Numerals.{add-one}
 use native.Mathlib.Nat.{add-zero, pow-succ', div-add-mod, div-one, div-eq-of-lt}
 use native.Mathlib.Omega.{arith}
@@ -11,8 +11,8 @@ use native.Mathlib.Decide.{decLt}
 use borrow.Author.Tests.{eqb-true, eqb-false}
 use lib.Dec.{eqb}
 use lib.IntN.{ℤ, pos, natAbs, _+ℤ_, _*ℤ_}
-use lib.ListN.{length, getD, drop, drop-of-length-le, List·getD-eq-default}
-use lib.Seq.{drop-cons}
+use lib.ListN.{length, getD, take, drop, length-take, length-drop, drop-of-length-le, List·getD-eq-default}
+use lib.Seq.{take-all, drop-cons, drop-drop}
 use lib.Pow.{shr-shr}
 use Rattle.laws.proofs.Integers.{parts, diffs, ring, same-left}
 use Rattle.meaning.specs.Digits.{worth}
@@ -62,6 +62,50 @@ stretch-more ds i m r s d h =
         let k = simp diffs at (rw (parts d) at f) in
         let l = simp diffs at (rw (parts X, parts Y) at g) in
         rw (e, parts d, parts X, parts Y) (simp diffs (omega ring))
+
+-- the worth of a list by its first n digits and the others
+worth-split : (n : ℕ) (ds : List ℤ) → worth ds ≡ worth (take n ds) +ℤ pos (2 ^ n) *ℤ worth (drop n ds)
+unfolding worth
+worth-split zero ds = whole (worth ds)
+  where
+    whole : (W : ℤ) → W ≡ pos 0 +ℤ pos 1 *ℤ W
+    whole W = rw (parts W) (simp diffs (omega ring))
+worth-split (suc n) [] = ap pos (omega arith)
+worth-split (suc n) (d ∷ ds) = rw pow-succ' (law (2 ^ n) (worth ds) (worth (take n ds)) (worth (drop n ds)) (worth-split n ds))
+  where
+    law : (P : ℕ) (W X Y : ℤ) → W ≡ X +ℤ pos P *ℤ Y → d +ℤ pos 2 *ℤ W ≡ (d +ℤ pos 2 *ℤ X) +ℤ pos (2 * P) *ℤ Y
+    law P W X Y e = rw (e, parts d, parts X, parts Y) (simp diffs (omega ring))
+
+-- eight places of a part that has them alone
+pub stretch-part : (ds : List ℤ) (i r : ℕ) → Stretch (take 8 (drop i ds)) 0 8 r → Stretch ds i 8 r
+unfolding worth
+stretch-part ds i r h =
+    let xs = drop i ds in
+    let none = drop-of-length-le (take 8 xs) {i = 8} (omega (arith, length-take 8 xs)) in
+    record {
+      is = law (worth xs) (worth (take 8 xs)) (worth (drop (i + 8) ds)) (worth-split 8 xs ∙ ap (λ ys. worth (take 8 xs) +ℤ pos 256 *ℤ worth ys) (drop-drop 8 i ds)) (rw none at (h .is));
+      least = h .least;
+      most = h .most;
+    }
+  where
+    law : (W X Y : ℤ) → W ≡ X +ℤ pos 256 *ℤ Y → X +ℤ pos (level * 256) ≡ pos (r + level) +ℤ pos 256 *ℤ pos 0 → W +ℤ pos (level * 256) ≡ pos (r + level) +ℤ pos 256 *ℤ Y
+    law W X Y e f =
+        let k = simp diffs at (rw (parts X) at f) in
+        rw (e, parts X, parts Y) (simp diffs (omega ring))
+
+-- of a part that goes on to the top
+pub stretch-rest : (ds : List ℤ) (i r : ℕ) → Stretch (take (length ds - i) (drop i ds)) 0 8 r → Stretch ds i 8 r
+stretch-rest ds i r h =
+    let all = take-all (length ds - i) (drop i ds) (omega (arith, length-drop i ds)) in
+    record { is = rw (all, drop-drop 8 i ds) at (h .is); least = h .least; most = h .most }
+
+-- and above the string
+pub stretch-above : (ds : List ℤ) (i : ℕ) → length ds ≤ i → Stretch ds i 8 (255 * level)
+unfolding worth
+stretch-above ds i l =
+    let here = drop-of-length-le ds {i = i} l in
+    let above = drop-of-length-le ds {i = i + 8} (omega arith) in
+    record { is = rw (here, above); least = omega arith; most = omega arith }
 
 -- ---- one comparison
 -- eight places of worth e, a byte b and a carry c leave l and the carry c′

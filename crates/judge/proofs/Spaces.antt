@@ -1,6 +1,6 @@
--- A look at the spacing of the nonzero digits, from place 0 up: what is known at place i, how one digit more goes, and how the look ends.
+-- A look at the spacing of the nonzero digits, gap by gap and from place 0 up: what is known at place i, how one digit more goes, and how the look ends.
 -- Assumes nothing.
-use mathlib.Core.Path.{_≡_, sym, ap, _∙_}
+use mathlib.Core.Path.{_≡_, sym, ap, _∙_, subst}
 use mathlib.Core.Logic.{_≢_, _⊎_, inl, inr, ⊎-elim}
 use mathlib.Core.List.{List}
 use Prim.Native.Nat.{ℕ, _+_, _-_, _<_, _≤_}
@@ -12,12 +12,52 @@ use lib.ListN.{length, getD, List·getD-eq-default}
 use Rattle.meaning.specs.Refusals.{lowest}
 use Rattle.meaning.specs.Checking.{Crowded}
 use Rattle.laws.proofs.Choices.{not-below}
-use Rattle.judge.specs.Spaces.{Freed}
+use Rattle.judge.specs.Spaces.{Freed, Clear}
 
 -- the digit at place p is not 0
 abbrev Some : List ℤ → ℕ → Type 0
 Some ds p = getD ds p (pos 0) ≢ pos 0
 
+-- a place that is at most i is i or lies under it
+ways : {P : Type 0} {p i : ℕ} → p < i + 1 → (p ≡ i → P) → (p < i → P) → P
+ways {P} {p} {i} h f g = ⊎-elim f g (eq-or-lt-of-le {n = p} {m = i} (omega arith))
+
+-- ---- whether two stand too near, at all
+-- no two nonzero digits under place i stand `gap` apart
+pub record Cleared (gap : ℕ) (ds : List ℤ) (i : ℕ) : Type 0 where
+  pub low : gap ≤ i
+  pub none : (p : ℕ) → p + gap < i → Some ds p → Some ds (p + gap) → ⊥
+
+module _ (gap : ℕ) (ds : List ℤ) where
+  -- no pair is passed yet
+  pub clear-none : Cleared gap ds gap
+  clear-none = record { low = omega arith; none = λ p l. absurd (omega arith) }
+
+  -- one pair more
+  pub clear-more : (i : ℕ) → Cleared gap ds i → (Some ds (i - gap) → Some ds i → ⊥) → Cleared gap ds (i + 1)
+  clear-more i h n =
+      record {
+        low = omega (arith, h .low);
+        none =
+            λ p l s t.
+            ways l (λ (x : p + gap ≡ i). let y : p ≡ i - gap = omega arith in n (subst (Some ds) y s) (subst (Some ds) x t)) (λ (x : p + gap < i). h .none p x s t);
+      }
+
+  -- all pairs
+  pub clear-all : (i : ℕ) → Cleared gap ds i → length ds ≤ i → Clear gap ds
+  clear-all i h l p s t = go (decLt (p + gap) i)
+    where
+      go : Dec (p + gap < i) → ⊥
+      go (yes m) = h .none p m s t
+      go (no m) = t (List·getD-eq-default ds (pos 0) {n = p + gap} (omega arith))
+
+-- where no two stand fewer than w apart, none stand too near
+pub clear-apart : (w : ℕ) (ds : List ℤ) → ((g : ℕ) → g < w → 0 < g → Clear g ds) → (p : ℕ) → Crowded w ds p → ⊥
+clear-apart w ds h p c =
+    let there : c .other ≡ p + (c .other - p) = omega (arith, c .above) in
+    h (c .other - p) (omega (arith, c .near, c .above)) (omega (arith, c .above)) p (c .here) (subst (Some ds) there (c .there))
+
+-- ---- the lowest pair
 -- a nonzero place under place i, such that the next may stand from place `free` on
 pub record Last (w : ℕ) (ds : List ℤ) (free i : ℕ) : Type 0 where
   pub place : ℕ
@@ -30,10 +70,6 @@ pub record Roomy (w : ℕ) (ds : List ℤ) (free i : ℕ) : Type 0 where
   pub apart : (p q : ℕ) → p < q → q < i → Some ds p → Some ds q → p + w ≤ q
   pub clear : (p : ℕ) → p < i → Some ds p → p + w ≤ free
   pub last : (free ≡ 0) ⊎ Last w ds free i
-
--- a place that is at most i is i or lies under it
-ways : {P : Type 0} {p i : ℕ} → p < i + 1 → (p ≡ i → P) → (p < i → P) → P
-ways {P} {p} {i} h f g = ⊎-elim f g (eq-or-lt-of-le {n = p} {m = i} (omega arith))
 
 module _ (w : ℕ) (ds : List ℤ) where
   -- nothing is passed yet

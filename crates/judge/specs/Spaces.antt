@@ -5,6 +5,7 @@ use mathlib.Core.Logic.{_≢_}
 use mathlib.Core.List.{List}
 use Prim.Native.Nat.{ℕ, _+_}
 use lib.IntN.{ℤ, pos}
+use lib.ListN.{getD}
 use Rattle.meaning.specs.Refusals.{lowest}
 use Rattle.meaning.specs.Checking.{Crowded}
 use Rattle.judge.specs.declared.Spaced.{Spaced}
@@ -14,6 +15,10 @@ use Rattle.judge.specs.declared.Spaced.the-variants.{Near, Apart}
 pub record Freed (w free i : ℕ) (d : ℤ) (r : ℕ) : Type 0 where
   pub stays : d ≡ pos 0 → r ≡ free
   pub moves : d ≢ pos 0 → r ≡ i + w
+
+-- no two nonzero digits stand `gap` apart
+abbrev pub Clear : ℕ → List ℤ → Type 0
+Clear gap ds = (p : ℕ) → getD ds p (pos 0) ≢ pos 0 → getD ds (p + gap) (pos 0) ≢ pos 0 → ⊥
 
 -- the lower place of the lowest crowded pair, or that there is none
 abbrev pub Spacing : ℕ → List ℤ → Spaced → Type 0

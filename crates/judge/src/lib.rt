@@ -1,16 +1,17 @@
 // Judges digit strings made elsewhere: the call `check`, and `check_nonadjacent` that also asks how far apart the nonzero digits stand.
 ghost use mathlib.Core.Path.{_≡_};
 ghost use mathlib.Core.Logic.{_≢_};
-ghost use Prim.Native.Nat.{_+_, _*_, _^_, _≤_, _<_, max};
+ghost use mathlib.Core.Bool.{true};
+ghost use Prim.Native.Nat.{ℕ, _+_, _*_, _^_, _≤_, _<_, max};
 ghost use lib.IntN.{pos};
 ghost use lib.ListN.{length, getD};
 ghost use Rattle.meaning.specs.Scalars.{number, mostBytes};
 ghost use Rattle.meaning.specs.Digits.{mostPlaces, worth};
-ghost use Rattle.meaning.specs.Checking.{checkRules, nonadjacentRules, Check};
+ghost use Rattle.meaning.specs.Checking.{Crowded, checkRules, nonadjacentRules, Check};
 ghost use Rattle.judge.specs.Tests.{Says};
 ghost use Rattle.signed.specs.Levels.{Raised};
 ghost use Rattle.judge.specs.Levels.{level, Stretch, Turned};
-ghost use Rattle.judge.specs.Spaces.{Freed, Spacing};
+ghost use Rattle.judge.specs.Spaces.{Freed, Clear, Spacing};
 use digits::Found;
 use scalar::MOST_BYTES;
 use width::Known;
@@ -39,18 +40,33 @@ fn digit_at(digits: &[i8], i: usize) -> u32
     }
 }
 
-// The digits of the eight places from place i up, as one number.
-fn eight(digits: &[i8], i: usize) -> u32
-    requires { ⌜ i + 8 < 2 ^ 64 ⌝ }
-    ensures { λ r. ⌜ Stretch (now (digits .entry)) i 8 r ⌝ }
+// The eight lowest digits of a part of the string, as one number.
+fn lowest_eight(part: &[i8]) -> u32
+    ensures { λ r. ⌜ Stretch (now (part .entry)) 0 8 r ⌝ }
 {
     let mut sum = 0;
     let mut k = 8;
     while 0 < k {
         k -= 1;
-        sum = 2 * sum + digit_at(digits, i + k);
+        sum = 2 * sum + digit_at(part, k);
     }
     sum
+}
+
+// The digits of the eight places from place i up, as one number. Eight that stand in the string are lent by themselves: of a part with eight places
+// a compiler knows that none is looked for above it.
+fn eight(digits: &[i8], i: usize) -> u32
+    requires { ⌜ i + 8 < 2 ^ 64 ⌝ }
+    ensures { λ r. ⌜ Stretch (now (digits .entry)) i 8 r ⌝ }
+{
+    let end = i + 8;
+    if end <= digits.len() {
+        return lowest_eight(&digits[i..end]);
+    }
+    if i <= digits.len() {
+        return lowest_eight(&digits[i..]);
+    }
+    255 * LEVEL
 }
 
 // What the comparison of eight places with a byte leaves: a carry to the next eight, and here 0 only if the two agree.
@@ -119,7 +135,7 @@ fn freed(w: usize, free: usize, i: usize, digit: i8) -> usize
 }
 
 // Each nonzero digit is looked at with the last one under it alone: those further down are no nearer.
-fn spacing(w: usize, digits: &[i8]) -> Spaced
+fn near(w: usize, digits: &[i8]) -> Spaced
     requires { ⌜ w < 256 ⌝ }
     ensures { λ r. ⌜ Spacing w (now (digits .entry)) r ⌝ }
 {
@@ -134,6 +150,52 @@ fn spacing(w: usize, digits: &[i8]) -> Spaced
         i += 1;
     }
     Spaced::Apart
+}
+
+// Whether one of two digits is 0.
+fn parted(lower: i8, upper: i8) -> bool
+    ensures { λ r. ⌜ (r ≡ true → lower ≢ pos 0 → upper ≢ pos 0 → ⊥) ⌝ }
+{
+    if lower == 0 { true } else { upper == 0 }
+}
+
+// Whether no two nonzero digits stand `gap` apart. The loop has no branch and runs to the string's end, so a machine takes many digits at a time.
+fn clear(gap: usize, digits: &[i8]) -> bool
+    ensures { λ r. ⌜ (r ≡ true → Clear gap (now (digits .entry))) ⌝ }
+{
+    let mut all = true;
+    let mut i = gap;
+    while i < digits.len() {
+        all = digits::both(all, parted(digits[i - gap], digits[i]));
+        i += 1;
+    }
+    all
+}
+
+// Whether no two nonzero digits stand too near.
+fn apart(w: usize, digits: &[i8]) -> bool
+    requires { ⌜ w < 256 ⌝ }
+    ensures { λ r. ⌜ (r ≡ true → (p : ℕ) → Crowded w (now (digits .entry)) p → ⊥) ⌝ }
+{
+    let mut gap = 1;
+    while gap < w {
+        if !clear(gap, digits) {
+            return false;
+        }
+        gap += 1;
+    }
+    true
+}
+
+// Only in a string with such a pair it is looked for.
+fn spacing(w: usize, digits: &[i8]) -> Spaced
+    requires { ⌜ w < 256 ⌝ }
+    ensures { λ r. ⌜ Spacing w (now (digits .entry)) r ⌝ }
+{
+    if apart(w, digits) {
+        return Spaced::Apart;
+    }
+    near(w, digits)
 }
 
 // ---- the calls

@@ -3,8 +3,7 @@ use mathlib.Core.Path.{_≡_, refl, sym, ap, _∙_}
 use mathlib.Core.Bool.{_&&_}
 use Prim.Native.Nat.{_-_, _≤_}
 use native.Mathlib.Omega.{arith}
-use lib.IntN.{pos}
-use lib.ListN.{length, getD, take}
+use lib.ListN.{length, take}
 use lib.Seq.{take-all}
 use mir.Syntax.{w8}
 use mir.Facts.{toZ-ofZ}
@@ -23,11 +22,14 @@ loop-holds : tie.Need-loop-holds Inv-loop μ-loop
 unfolding allIn
 loop-holds c = (omega arith, refl)
 
-shared-slice-copy-out-still : tie.Need-shared-slice-copy-out-still Inv-loop μ-loop
-shared-slice-copy-out-still c = omega arith
+shared-slice-copy-out-holds : tie.Need-shared-slice-copy-out-holds Inv-loop μ-loop
+shared-slice-copy-out-holds c = omega arith
 
-still-requires : tie.Need-still-requires Inv-loop μ-loop
-still-requires c κs = c .before .before .before .pre
+holds-requires : tie.Need-holds-requires Inv-loop μ-loop
+holds-requires c κs = c .before .before .before .pre
+
+both-requires : tie.Need-both-requires Inv-loop μ-loop
+both-requires c κs = tt
 
 add-i : tie.Need-add-i Inv-loop μ-loop
 add-i c = omega arith
@@ -37,17 +39,16 @@ loop-less c = omega arith
 
 loop-again : tie.Need-loop-again Inv-loop μ-loop
 loop-again c =
-    let a = c .before .before .before .before .args in
-    let l = c .before .before .before .loop in
-    let m = largest (a .width .bits) in (
-      omega arith,
-      c .still .ensures ∙ ap (λ d. inSet m d && l .all) (toZ-ofZ {w = w8} (record { sfits = c .before .still-arg .given }))
-          ∙ ap (λ b. inSet m (getD (a .digits .now) (l .i) (pos 0)) && b) (l .inv .1) ∙ sym (all-next m (a .digits .now) (l .i) (omega arith)),
-    )
+    let h = c .before in
+    let a = h .before .before .before .before .args in
+    let l = h .before .before .before .loop in
+    let m = largest (a .width .bits) in
+    let d = toZ-ofZ {w = w8} (record { sfits = h .before .holds-arg .given }) in
+    (omega arith, c .both .ensures ∙ ap (λ b. b && h .holds .result) (l .inv .1) ∙ ap (λ b. allIn m (take (l .i) (a .digits .now)) && b) (h .holds .ensures ∙ ap (inSet m) d) ∙ sym (all-next m (a .digits .now) (l .i) (omega arith)))
 
 returns : tie.Need-returns Inv-loop μ-loop
 returns c = let a = c .before .before .args in c .before .loop .inv .1 ∙ ap (allIn (largest (a .width .bits))) (take-all (c .before .loop .i) (a .digits .now) (omega arith))
 
 pub sound-spec : {M : Type 1} → statement M
 sound-spec =
-    tie.close (tie.spec Inv-loop μ-loop loop-holds shared-slice-copy-out-still still-requires add-i loop-less loop-again returns)
+    tie.close (tie.spec Inv-loop μ-loop loop-holds shared-slice-copy-out-holds holds-requires both-requires add-i loop-less loop-again returns)

@@ -1,61 +1,71 @@
--- `judge::eight` meets its contract. The loop's invariant: the sum is that of the places from i + k up. Assumes nothing.
-use mathlib.Core.Path.{_≡_}
-use Prim.Native.Nat.{suc, _+_, _*_, _-_, _≤_}
-use native.Mathlib.Nat.{add-zero}
+-- `judge::eight` meets its contract, by where the eight places stand. Assumes nothing.
+use mathlib.Core.Path.{_≡_, subst}
+use Prim.Native.Nat.{_+_, _-_}
+use borrow.Author.Needs.{needs}
 use native.Mathlib.Omega.{arith}
-use lib.Pow.{pow-mono}
+use lib.ListN.{take, drop}
 use denote.Ref.{now}
 use Rattle.judge.specs.Levels.{Stretch}
-use Rattle.judge.proofs.Levels.{stretch-none, stretch-more}
+use Rattle.judge.proofs.Levels.{stretch-part, stretch-rest, stretch-above}
 use Rattle.judge.proofs.eight.Statement.{statement}
 use Rattle.judge.proofs.eight.Tie as tie
 
-abbrev Inv-loop : tie.InvT-loop
-Inv-loop digits i sum₀ k₀ sum k = (k ≤ 8) × Stretch digits (i + k) (8 - k) sum
+add-end : tie.Need-add-end
+add-end c = search needs
 
-abbrev μ-loop : tie.MeasureT-loop
-μ-loop digits i sum₀ k₀ sum k = k
+sub-lowest-eight : tie.Need-sub-lowest-eight
+sub-lowest-eight c = search needs
 
--- the sum is small
-small : (c : tie.In-loop Inv-loop μ-loop) → c .before .loop .sum ≤ 383 * 256
-small c = let l = c .before .loop in omega (arith, l .inv .1 .most, pow-mono {i = 8 - l .k} {j = 8} (omega arith))
+part-lowest-eight-start : tie.Need-part-lowest-eight-start
+part-lowest-eight-start c = search needs
 
-loop-holds : tie.Need-loop-holds Inv-loop μ-loop
-loop-holds c = (omega arith, stretch-none (now (c .args .digits)) (c .args .i + 8))
+part-lowest-eight-end : tie.Need-part-lowest-eight-end
+part-lowest-eight-end c = search needs
 
-sub-k : tie.Need-sub-k Inv-loop μ-loop
-sub-k c = omega arith
+lowest-eight-requires : tie.Need-lowest-eight-requires
+lowest-eight-requires c κs = search needs
 
-mul-sum : tie.Need-mul-sum Inv-loop μ-loop
-mul-sum c = omega (arith, small c)
-
-add-digit-at : tie.Need-add-digit-at Inv-loop μ-loop
-add-digit-at c = omega arith
-
-digit-at-requires : tie.Need-digit-at-requires Inv-loop μ-loop
-digit-at-requires c κs = tt
-
-add-sum : tie.Need-add-sum Inv-loop μ-loop
-add-sum c = omega (arith, small (c .before), c .digit-at .ensures .most)
-
-loop-less : tie.Need-loop-less Inv-loop μ-loop
-loop-less c = omega arith
-
-loop-again : tie.Need-loop-again Inv-loop μ-loop
-loop-again c =
-    let a = c .before .before .before .args in
-    let l = c .before .before .loop in
-    let k = l .k - 1 in
-    let here : a .i + l .k ≡ a .i + k + 1 = omega arith in
-    let more : 8 - k ≡ suc (8 - l .k) = omega arith in
-    (omega arith, rw more (stretch-more (now (a .digits)) (a .i + k) (8 - l .k) (c .digit-at .result) (l .sum) (c .digit-at .ensures) (rw here at (l .inv .1))))
-
-returns : tie.Need-returns Inv-loop μ-loop
+returns : tie.Need-returns
 returns c =
-    let l = c .before .loop in
-    let none : l .k ≡ 0 = omega arith in
-    rw (none, add-zero) at (l .inv .1)
+    let a = c .before .before .before .args in
+    let n : a .i + 8 - a .i ≡ 8 = omega arith in
+    stretch-part (now (a .digits)) (a .i) _ (subst (λ k. Stretch (take k (drop (a .i) (now (a .digits)))) 0 8 (c .lowest-eight .result)) n (c .lowest-eight .ensures))
+
+sub-lowest-eight-2 : tie.Need-sub-lowest-eight-2
+sub-lowest-eight-2 c = search needs
+
+part-lowest-eight-start-2 : tie.Need-part-lowest-eight-start-2
+part-lowest-eight-start-2 c = search needs
+
+part-lowest-eight-end-2 : tie.Need-part-lowest-eight-end-2
+part-lowest-eight-end-2 c = search needs
+
+lowest-eight-requires-2 : tie.Need-lowest-eight-requires-2
+lowest-eight-requires-2 c κs = search needs
+
+returns-2 : tie.Need-returns-2
+returns-2 c = let a = c .before .before .before .before .args in stretch-rest (now (a .digits)) (a .i) _ (c .lowest-eight2 .ensures)
+
+mul-result : tie.Need-mul-result
+mul-result c = search needs
+
+returns-3 : tie.Need-returns-3
+returns-3 c = let a = c .before .before .args in stretch-above (now (a .digits)) (a .i) (omega arith)
 
 pub eight-spec : {M : Type 1} → statement M
 eight-spec =
-    tie.close (tie.spec Inv-loop μ-loop loop-holds sub-k mul-sum add-digit-at digit-at-requires add-sum loop-less loop-again returns)
+    tie.close
+    (tie.spec
+    add-end
+    sub-lowest-eight
+    part-lowest-eight-start
+    part-lowest-eight-end
+    lowest-eight-requires
+    returns
+    sub-lowest-eight-2
+    part-lowest-eight-start-2
+    part-lowest-eight-end-2
+    lowest-eight-requires-2
+    returns-2
+    mul-result
+    returns-3)

@@ -1,70 +1,19 @@
--- `judge::spacing` meets its contract. The loop's invariant: the nonzero digits passed stand apart, and the next may stand from place `free` on. Assumes nothing.
-use Prim.Native.Nat.{_-_, _≤_}
-use native.Mathlib.Omega.{arith}
+-- `judge::spacing` meets its contract. Assumes nothing.
 use borrow.Author.Needs.{needs}
-use lib.ListN.{length}
-use mir.Syntax.{w8}
-use mir.Facts.{toZ-ofZ}
-use denote.Ref.{now}
-use Rattle.meaning.specs.Refusals.{lowest}
-use Rattle.meaning.specs.Checking.{Crowded}
-use Rattle.judge.proofs.Tests.{said, denied}
-use Rattle.judge.proofs.Spaces.{Roomy, room-none, room-more, room-short, room-all}
 use Rattle.judge.proofs.spacing.Statement.{statement}
 use Rattle.judge.proofs.spacing.Tie as tie
 
-abbrev Inv-loop : tie.InvT-loop
-Inv-loop w digits free₀ i₀ free i = Roomy w digits free i
+apart-requires : tie.Need-apart-requires
+apart-requires c κs = search needs
 
-abbrev μ-loop : tie.MeasureT-loop
-μ-loop w digits free₀ i₀ free i = length digits - i
+returns : tie.Need-returns
+returns c = c .before .apart .ensures (c .if1 .taken)
 
-loop-holds : tie.Need-loop-holds Inv-loop μ-loop
-loop-holds c = let a = c .args in room-none (a .w) (now (a .digits))
+near-requires : tie.Need-near-requires
+near-requires c κs = search needs
 
-shared-slice-copy-out-digit : tie.Need-shared-slice-copy-out-digit Inv-loop μ-loop
-shared-slice-copy-out-digit c = search needs
-
-crowds-requires : tie.Need-crowds-requires Inv-loop μ-loop
-crowds-requires c κs = search needs
-
--- where a digit stands too near
-near : (c : tie.Then1 Inv-loop μ-loop) → let a = c .before .before .before .before .before .args in let l = c .before .before .before .before .loop in (a .w ≤ l .free) × lowest (Crowded (a .w) (now (a .digits))) (l .free - a .w)
-near c =
-    let a = c .before .before .before .before .before .args in
-    let l = c .before .before .before .before .loop in
-    let digit = toZ-ofZ {w = w8} (record { sfits = c .before .before .digit .given }) in
-    room-short (a .w) (now (a .digits)) (l .free) (l .i) (l .inv) digit (said (c .before .crowds .ensures) (c .if1 .taken))
-
-sub-t11 : tie.Need-sub-t11 Inv-loop μ-loop
-sub-t11 c = near c .0
-
-returns : tie.Need-returns Inv-loop μ-loop
-returns c = near c .1
-
-freed-requires : tie.Need-freed-requires Inv-loop μ-loop
-freed-requires c κs = omega arith
-
-add-i : tie.Need-add-i Inv-loop μ-loop
-add-i c = omega arith
-
-loop-less : tie.Need-loop-less Inv-loop μ-loop
-loop-less c = omega arith
-
-loop-again : tie.Need-loop-again Inv-loop μ-loop
-loop-again c =
-    let k = c .before .before in
-    let a = k .before .before .before .before .args in
-    let l = k .before .before .before .loop in
-    let digit = toZ-ofZ {w = w8} (record { sfits = k .before .digit .given }) in
-    room-more (a .w) (now (a .digits)) (l .free) (c .freed .result) (l .i) (l .inv) digit (denied (k .crowds .ensures) (c .before .if1 .left)) (c .freed .ensures)
-
-returns-2 : tie.Need-returns-2 Inv-loop μ-loop
-returns-2 c =
-    let a = c .before .before .args in
-    let l = c .before .loop in
-    room-all (a .w) (now (a .digits)) (l .free) (l .i) (l .inv) (c .loop-test .left)
+returns-2 : tie.Need-returns-2
+returns-2 c = search needs
 
 pub spacing-spec : {M : Type 1} → statement M
-spacing-spec =
-    tie.close (tie.spec Inv-loop μ-loop loop-holds shared-slice-copy-out-digit crowds-requires sub-t11 returns freed-requires add-i loop-less loop-again returns-2)
+spacing-spec = tie.close (tie.spec apart-requires returns near-requires returns-2)
