@@ -19,7 +19,8 @@ use Rattle.meaning.specs.Running.{entries, Residue}
 use Rattle.forms.proofs.Refusals.{first-only}
 use Rattle.forms.proofs.Forms.{form-length, form-digits}
 use Rattle.scalar.proofs.Bytes.{Bytes, number-lt}
-use Rattle.tape.proofs.Refusals.{not-plain, not-below}
+use Rattle.laws.proofs.Choices.{not-below}
+use Rattle.width.proofs.Widths.{not-plain}
 use Rattle.tape.proofs.Lengths.{tape-fits}
 use Rattle.judge.specs.declared.Verdict.{Verdict}
 use Rattle.run.specs.declared.Ran.{Ran}

@@ -20,7 +20,7 @@ use Rattle.meaning.specs.Taping.{codeOf, entryOf, tapeOf, tapeValue, doublings,
 use Rattle.meaning.specs.Running.{entries, IsLoad, Good, BadWord, Residue, multiplesOf, runRules}
 use Rattle.forms.proofs.Forms.{form-exists}
 use Rattle.scalar.proofs.Bytes.{Bytes, number-lt}
-use Rattle.tape.proofs.Refusals.{not-below}
+use Rattle.laws.proofs.Choices.{not-below}
 use Rattle.judge.specs.declared.Verdict.{Verdict}
 use Rattle.run.specs.declared.Ran.{Ran}
 use Rattle.run.specs.declared.Outcome.the-variants as variants
