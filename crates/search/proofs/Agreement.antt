@@ -13,7 +13,7 @@ use Rattle.meaning.specs.Forms.{Form}
 use Rattle.meaning.specs.Refusals.{First}
 use Rattle.meaning.specs.Searching.{searchPlaces, searchRules, Spells, Search}
 use Rattle.forms.proofs.Forms.{form-exists, form-length, form-worth, form-digits, form-least}
-use Rattle.search.specs.Within.{mostNumber}
+use Rattle.search.specs.Least.{mostNumber}
 
 -- ---- a string of nine places: the wNAF, on one place more than eight bits
 module _ (w number : ℕ) (two : 2 ≤ w) (small : number ≤ mostNumber) where

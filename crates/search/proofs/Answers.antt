@@ -6,9 +6,10 @@ use Prim.Native.Nat.{ℕ, suc, _≤_, _<_}
 use native.Mathlib.Omega.{arith}
 use lib.IntN.{pos}
 use Rattle.meaning.specs.Refusals.{plain, First}
-use Rattle.meaning.specs.Searching.{searchPlaces, searchRules, LeastWeight, Search}
+use Rattle.meaning.specs.Searching.{searchPlaces, searchRules, Search}
 use Rattle.search.specs.declared.Searched.{Searched}
-use Rattle.search.specs.Within.{mostNumber}
+use Rattle.search.specs.Least.{mostNumber, Least, found, none}
+use Rattle.search.proofs.Agreement.{nine-suffice}
 
 module _ (number w : ℕ) where
   abbrev Firsts : ℕ → Type 0
@@ -33,7 +34,8 @@ module _ (number w : ℕ) where
     pub refuses-number : {s : Searched} → s ≡ record { refusal = 3; weight = 0 } → mostNumber < number → Answer s
     refuses-number e h = refuses e (inr (fine, inl (refl, (h, refl))))
 
-    -- no rule applies
-    pub accepts : {k : ℕ} → number ≤ mostNumber → LeastWeight w searchPlaces (pos number) k → Search number w 0 k
-    accepts small l =
+    -- a number that is searched has a string
+    pub accepts : {k : ℕ} → number ≤ mostNumber → Least w searchPlaces (pos number) k → Search number w 0 k
+    accepts small (found l) =
         record { first = inr (fine, inr (λ q h. omega (arith, h .0), (refl, refl))); accepted = λ z. l; refused = λ z. absurd (z refl) }
+    accepts small (none e n) = let (ds, f, s) = nine-suffice w number two small in absurd (n ds s)

@@ -1,16 +1,16 @@
--- A string with every digit negated is worth the negative, of the same weight and over the same digits: a number and its negative have strings of the same weights.
+-- A string with every digit negated is worth the negative, of the same weight and over the same digits: a number and its negative have the same least weight.
 -- Assumes nothing.
 use mathlib.Core.Path.{_≡_, refl, ap, ap₂, subst, sym, _∙_}
 use mathlib.Core.Bool.{_&&_, _||_}
 use mathlib.Core.List.{List, [], _∷_, map}
 use Prim.Native.Nat.{ℕ, zero, suc, _+_, _%_, _≤_}
 use lib.Dec.{T, eqb, leb}
-use lib.IntN.{ℤ, pos, negsuc, negℤ, natAbs, _+ℤ_, _*ℤ_}
+use lib.IntN.{ℤ, pos, negsuc, negℤ, negℤ-negℤ, _+ℤ_, _*ℤ_}
 use lib.ListN.{length-map}
 use Rattle.laws.proofs.Integers.{parts, diffs, ring, abs-negate}
 use Rattle.meaning.specs.Digits.{inSet, largest, allIn, worth, nonzero, weight}
 use Rattle.meaning.specs.Searching.{Spells}
-use Rattle.search.specs.Within.{Light}
+use Rattle.search.specs.Least.{Least, found, none}
 
 -- every digit negated
 abbrev negated : List ℤ → List ℤ
@@ -56,8 +56,17 @@ module _ {w places : ℕ} {z : ℤ} where
         worth-is = negated-worth ds ∙ ap negℤ (s .worth-is);
       }
 
--- so the search may go by sizes
-pub light-size : {w places k : ℕ} (z : ℤ) → Light w places z k → Light w places (pos (natAbs z)) k
-light-size (pos n) l = l
-light-size {k = k} (negsuc n) l =
-    record { string = negated (l .string); spells = spells-negated (l .spells); weight-le = subst (λ j. j ≤ k) (sym (negated-weight (l .string))) (l .weight-le) }
+module _ {w places : ℕ} {z : ℤ} where
+  back : {ds : List ℤ} → Spells w places (negℤ z) ds → Spells w places z (negated ds)
+  back {ds} s = subst (λ x. Spells w places x (negated ds)) (negℤ-negℤ z) (spells-negated s)
+
+  -- so the search may go by sizes
+  pub least-negated : {r : ℕ} → Least w places z r → Least w places (negℤ z) r
+  least-negated {r} (found l) =
+      found (record {
+        string = negated (l .string);
+        spells = spells-negated (l .spells);
+        weight-is = negated-weight (l .string) ∙ l .weight-is;
+        least = λ ds s. subst (λ k. r ≤ k) (negated-weight ds) (l .least (negated ds) (back s));
+      })
+  least-negated (none e n) = none e (λ ds s. n (negated ds) (back s))

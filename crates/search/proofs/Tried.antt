@@ -1,117 +1,86 @@
--- Whether a string of bounded weight is worth a number: without weight or places only 0 has one; under an even number only 0 can stand; under an odd number each
--- odd digit of the width leaves a size, and each size in a range is left by one. Assumes nothing.
-use mathlib.Core.Path.{_≡_, refl, ap, subst, sym, _∙_}
-use mathlib.Core.Bool.{Bool, true, false}
+-- What the search has found when the first digits were tried at the lowest place: one digit more, by what is left over it, and all of them.
+-- Assumes nothing.
+use mathlib.Core.Path.{_≡_, subst, sym, ap, _∙_}
+use mathlib.Core.Logic.{_≢_, _⊎_, inl, inr}
 use mathlib.Core.List.{List, [], _∷_}
-use Prim.Native.Nat.{ℕ, zero, suc, _+_, _-_, _*_, _/_, _%_, _≤_, _<_}
-use native.Mathlib.Decide.{decLe}
+use Prim.Native.Nat.{ℕ, suc, _+_, _-_, _/_, _%_, _^_, _≤_, _<_, min}
+use native.Mathlib.Decide.{decLt}
 use native.Mathlib.Omega.{arith}
-use lib.Dec.{T, eqb, eqb→eq}
-use lib.IntN.{ℤ, pos, negsuc, natAbs, _+ℤ_, _*ℤ_}
-use Rattle.laws.proofs.Choices.{equal}
-use Rattle.laws.proofs.Integers.{parts, diff, diff-is, diffs, ring, abs-is}
-use Rattle.meaning.specs.Digits.{inSet, largest, allIn, worth, nonzero, weight}
-use Rattle.meaning.specs.Searching.{Spells}
-use Rattle.search.specs.Within.{Positive, Light, Within}
-use Rattle.search.proofs.Negated.{light-size}
-use Rattle.search.proofs.Rest.{nonzero-size, digit-in, put, rest, lowest-parity, lowest-even, lowest-le, above-even, above-size}
+use lib.IntN.{ℤ, pos, negℤ, natAbs, _+ℤ_, _*ℤ_}
+use lib.ListN.{getD}
+use Rattle.meaning.specs.Digits.{largest, nonzero}
+use Rattle.meaning.specs.Searching.{searchPlaces, Spells}
+use Rattle.width.specs.Widths.{Lawful}
+use Rattle.search.specs.Least.{nothing, digitAt, leftOver, Least}
+use Rattle.search.proofs.Negated.{least-negated}
+use Rattle.search.proofs.Lowest.{put, rest, lowest-parity, lowest-in}
+use Rattle.search.proofs.Order.{numberOf, digit-numbered, number-small, number-at, numbered-in, nonzero-at, left-parity, above}
+use Rattle.search.proofs.Lightest.{Lightest, lightest-of, lightest-is, lightest-as, Ways, other, over, lightest-ways}
 
--- ---- a digit under a string
-light-put : {w places p j k : ℕ} {z y : ℤ} (d : ℤ) → places ≡ suc p → z ≡ d +ℤ pos 2 *ℤ y → T (inSet (largest w) d) → nonzero d + j ≤ k → Light w p y j → Light w places z k
-unfolding weight
-light-put d next sum t h l = record { string = d ∷ l .string; spells = put next sum t (l .spells); weight-le = omega (arith, l .weight-le) }
+-- the strings that are worth m and whose lowest digit is among the first
+abbrev Under : (w places m first : ℕ) → List ℤ → Type 0
+Under w places m first ds = Spells w places (pos m) ds × (numberOf (getD ds 0 (pos 0)) < first)
 
--- ---- only 0
--- 0 has a string, of zeros
-light-zero : (w places k : ℕ) → Light w places (pos 0) k
-unfolding inSet allIn worth weight nonzero
-light-zero w zero k = record { string = []; spells = record { length-is = refl; in-set = tt; worth-is = refl }; weight-le = omega arith }
-light-zero w (suc p) k = light-put (pos 0) refl refl tt (omega arith) (light-zero w p k)
+-- the best of them when so many digits were tried
+abbrev pub Tried : (w places m first best : ℕ) → Type 0
+Tried w places m first best = Lightest (Under w places m first) best
 
--- a string of no weight is worth 0
-weightless : (ds : List ℤ) → weight ds ≤ 0 → worth ds ≡ pos 0
-unfolding weight worth nonzero
-weightless [] h = refl
-weightless (pos zero ∷ ds) h = ap (λ x. pos 0 +ℤ pos 2 *ℤ x) (weightless ds (omega arith))
-weightless (pos (suc n) ∷ ds) h = absurd (omega arith)
-weightless (negsuc n ∷ ds) h = absurd (omega arith)
+pub tried-none : (w places m : ℕ) → Tried w places m 0 nothing
+tried-none w places m = record { most = omega arith; reached = λ h. absurd (omega arith); least = λ ds u. absurd (omega (arith, u .1)) }
 
--- and so is one of no place
-placeless : (ds : List ℤ) {z : ℤ} {w places : ℕ} → places ≡ 0 → Spells w places z ds → z ≡ pos 0
-unfolding worth
-placeless [] e s = sym (s .worth-is)
-placeless (d ∷ ds) e s = absurd (omega (arith, s .length-is))
-
-module _ (w places k m : ℕ) where
-  only-zero : (Light w places (pos m) k → pos m ≡ pos 0) → Within w places (pos m) k (eqb m 0)
-  only-zero f =
-      record {
-        found = λ e. rw (eqb→eq m 0 (subst T (sym e) tt)) (light-zero w places k);
-        none = λ e l. subst T e (equal m 0 (ap natAbs (f l)));
-      }
-
-  pub within-weightless : k ≡ 0 → Within w places (pos m) k (eqb m 0)
-  within-weightless e = only-zero (λ l. sym (l .spells .worth-is) ∙ weightless (l .string) (omega (arith, l .weight-le)))
-
-  pub within-placeless : places ≡ 0 → Within w places (pos m) k (eqb m 0)
-  within-placeless e = only-zero (λ l. placeless (l .string) e (l .spells))
-
--- ---- sizes
--- no size from the first on, of those that an odd digit under m can leave, has a string
-abbrev pub Tried : (w p m odds k first : ℕ) → Type 0
-Tried w p m odds k first = (s : ℕ) → first ≤ s → s < (m + 1) / 2 + odds → Light w p (pos s) k → ⊥
-
--- one size more
-pub tried-more : (w p m odds k first s : ℕ) → first ≤ s + 1 → Tried w p m odds k first → (Light w p (pos s) k → ⊥) → Tried w p m odds k s
-tried-more w p m odds k first s h t n x low high l = go (decLe first x)
-  where
-    go : Dec (first ≤ x) → ⊥
-    go (yes i) = t x i high l
-    go (no i) = n (subst (λ y. Light w p (pos y) k) (omega arith) l)
-
-module _ (w m : ℕ) {places p : ℕ} (next : places ≡ suc p) where
-  -- ---- an even number
-  pub within-even : {k : ℕ} {r : Bool} → m % 2 ≡ 0 → Within w p (pos (m / 2)) k r → Within w places (pos m) k r
-  unfolding inSet nonzero weight
-  within-even {k} e l =
-      record {
-        found = λ t. light-put (pos 0) next (above-even m e) tt (omega arith) (l .found t);
-        none = λ t x. l .none t (halved (x .string) (x .spells) (x .weight-le));
-      }
+module _ (w m : ℕ) {places p : ℕ} (few : places ≤ searchPlaces) (next : places ≡ suc p) where
+  -- a string with one digit more at the lowest place has that digit or one before it
+  last : {i : ℕ} {d : ℤ} {ds : List ℤ} {P : Type 0} → (numberOf d < i → P) → (d ≡ digitAt i → P) → Under w places m (i + 1) (d ∷ ds) → P
+  last {i} {d} {ds} {P} f g (s, h) = go (decLt (numberOf d) i)
     where
-      halved : (ds : List ℤ) → Spells w places (pos m) ds → weight ds ≤ k → Light w p (pos (m / 2)) k
-      halved [] s h = absurd (omega (arith, s .length-is))
-      halved (d ∷ ds) s h = record { string = ds; spells = rest next (above-even m e) (lowest-even s e) s; weight-le = omega arith }
+      go : Dec (numberOf d < i) → P
+      go (yes l) = f l
+      go (no l) =
+          let e : numberOf d ≡ i = omega arith in
+          g (sym (digit-numbered (largest w) d (lowest-in s)) ∙ ap digitAt e)
 
-  -- ---- an odd number
-  module _ (odds : ℕ) (has : Positive odds w) (odd : m % 2 ≡ 1) {j k : ℕ} (one : k ≡ suc j) where
-    -- each size is left over an odd digit
-    pub within-found : {s : ℕ} → (m + 1) / 2 - odds ≤ s → s < (m + 1) / 2 + odds → Light w p (pos s) j → Within w places (pos m) k true
-    within-found {s} low high l =
-        let a = abs-is (diff m (2 * s)) in
-        let i = diff-is m (2 * s) in
-        record {
-          found = λ e. light-put (diff m (2 * s)) next (above-size m s)
-              (digit-in (largest w) (diff m (2 * s)) (omega arith) (omega arith))
-              (omega (arith, nonzero-size (diff m (2 * s)) (omega arith))) l;
-          none = λ e. absurd (subst T e tt);
-        }
-
-    -- and each odd digit leaves one of them
-    pub within-none : Tried w p m odds j ((m + 1) / 2 - odds) → Within w places (pos m) k false
-    unfolding weight worth
-    within-none n = record { found = λ e. absurd (subst T (sym e) tt); none = λ e l. go (l .string) (l .spells) (l .weight-le) }
+  -- ---- one digit more
+  module _ (i r : ℕ) (left : r ≡ leftOver m i) where
+    -- over which something odd is left: no string has it
+    pub tried-odd : {best : ℕ} → r % 2 ≢ 0 → Tried w places m i best → Tried w places m (i + 1) best
+    tried-odd n t = lightest-as (λ ds u. (u .0, omega arith)) under t
       where
-        leaves : (d x : ℤ) → d +ℤ pos 2 *ℤ x ≡ pos m → natAbs d ≤ largest w → ((m + 1) / 2 - odds ≤ natAbs x) × (natAbs x < (m + 1) / 2 + odds)
-        leaves d x e h = let q = simp diffs at (rw (parts d, parts x) at e) in omega (ring, abs-is d, abs-is x)
+        under : (ds : List ℤ) → Under w places m (i + 1) ds → Under w places m i ds
+        under [] (s, h) = absurd (omega (arith, s .length-is))
+        under (d ∷ ds) (s, h) = last (λ l. (s, l)) (λ e. absurd (n (left-parity m r (digitAt i) left (ap (λ x. natAbs x % 2) (sym e) ∙ lowest-parity s)))) (s, h)
 
-        go : (ds : List ℤ) → Spells w places (pos m) ds → weight ds ≤ k → ⊥
-        go [] s h = absurd (omega (arith, s .length-is))
-        go (d ∷ ds) s h =
-            let (low, high) = leaves d (worth ds) (s .worth-is) (lowest-le s) in
-            n (natAbs (worth ds)) low high
-            (light-size (worth ds) (record {
-              string = ds;
-              spells = rest next (sym (s .worth-is)) refl s;
-              weight-le = omega (arith, nonzero-size d (omega (arith, lowest-parity s)));
-            }))
+    -- over which the places above are worth u
+    module _ (law : Lawful w) (fits : i < 2 ^ (w - 1) + 1) (u : ℤ) (sum : pos m ≡ digitAt i +ℤ pos 2 *ℤ u) where
+      abbrev More : List ℤ → Type 0
+      More ds = Ways (Under w places m i) (Spells w p u) (digitAt i) ds
+
+      more-of : (ds : List ℤ) → Under w places m (i + 1) ds → More ds
+      more-of [] (s, h) = absurd (omega (arith, s .length-is))
+      more-of (d ∷ ds) (s, h) = last (λ l. other (s, l)) (λ e. subst (λ x. More (x ∷ ds)) (sym e) (over (rest next sum e s))) (s, h)
+
+      more-is : {ds : List ℤ} → More ds → Under w places m (i + 1) ds
+      more-is (other (s, h)) = (s, omega arith)
+      more-is (over s) = (put next sum (numbered-in w i law fits) s, omega (arith, number-at i))
+
+      tried-over : {best a : ℕ} → Tried w places m i best → Least w p u a → Tried w places m (i + 1) (min best (a + min i 1))
+      tried-over {best} {a} t l =
+          subst (λ n. Tried w places m (i + 1) (min best (a + n))) (nonzero-at i)
+          (lightest-as (λ ds s. more-is s) more-of (lightest-ways t (lightest-of (omega arith) l)))
+
+    -- over which something even is left, whose half was searched
+    pub tried-even : {best a : ℕ} → Lawful w → i < 2 ^ (w - 1) + 1 → r % 2 ≡ 0 → Tried w places m i best → Least w p (pos (r / 2)) a
+        → Tried w places m (i + 1) (min best (a + min i 1))
+    tried-even {best} {a} law fits e t l = go (above m r (digitAt i) left e)
+      where
+        go : (pos m ≡ digitAt i +ℤ pos 2 *ℤ pos (r / 2)) ⊎ (pos m ≡ digitAt i +ℤ pos 2 *ℤ negℤ (pos (r / 2)))
+            → Tried w places m (i + 1) (min best (a + min i 1))
+        go (inl q) = tried-over law fits (pos (r / 2)) q t l
+        go (inr q) = tried-over law fits (negℤ (pos (r / 2))) q t (least-negated l)
+
+  -- no other digit can stand there
+  pub tried-all : {first best : ℕ} → largest w + 2 ≤ first → Tried w places m first best → Least w places (pos m) best
+  tried-all {first} h t = lightest-is few (lightest-as (λ ds u. u .0) under t)
+    where
+      under : (ds : List ℤ) → Spells w places (pos m) ds → Under w places m first ds
+      under [] s = absurd (omega (arith, s .length-is))
+      under (d ∷ ds) s = (s, omega (arith, number-small (largest w) d (lowest-in s)))

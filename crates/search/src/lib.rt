@@ -1,18 +1,18 @@
-// The cross-check: a plain search for the least weight of a string of nine places worth a small number. It looks for a string of no nonzero digit, then for one of
-// at most 1, of at most 2, and so on until there is one, and tries every digit at the lowest place.
+// The cross-check: a plain search for the least weight of a string of nine places worth a small number. It tries every digit at the lowest place, and searches
+// what is left over it on one place fewer.
 ghost use mathlib.Core.Path.{_≡_};
-ghost use Prim.Native.Nat.{ℕ, _+_, _*_, _-_, _/_, _≤_};
+ghost use Prim.Native.Nat.{_+_, _≤_, min};
 ghost use lib.IntN.{pos};
-ghost use Rattle.meaning.specs.Searching.{searchPlaces, LeastWeight, Search};
+ghost use Rattle.meaning.specs.Searching.{searchPlaces, Search};
 ghost use Rattle.width.specs.Widths.{Lawful};
-ghost use Rattle.search.specs.Within.{mostNumber, Positive, Within};
+ghost use Rattle.search.specs.Least.{mostNumber, leftOver, Least};
 use width::Known;
 use width::Width;
 
 // Every string that is searched has this many places.
 const PLACES: u8 = 9;
 
-// More than any string weighs.
+// No string: more than any weighs, so that a string found is the smaller.
 const NOTHING: u8 = PLACES + 1;
 
 // The largest width and the largest number that are searched.
@@ -20,61 +20,63 @@ const MOST_WIDTH: u8 = 3;
 
 const MOST_NUMBER: u32 = 127;
 
-// The smallest size that can be left over an odd digit under an odd `size`, where there are `odds` positive digits.
-fn lowest(size: usize, odds: usize) -> usize
-    requires { ⌜ size ≤ mostNumber ⌝ }
-    ensures { λ r. ⌜ r ≡ (size + 1) / 2 - odds ⌝ }
+// The smaller of two weights.
+fn smaller(a: u8, b: u8) -> u8
+    ensures { λ r. ⌜ r ≡ min a b ⌝ }
 {
-    let half = (size + 1) / 2;
-    if half < odds { 0 } else { half - odds }
+    if a <= b { a } else { b }
 }
 
-// Whether a string of so many places with at most so many nonzero digits is worth `size`, at the width that has `odds` positive digits. (What is left over a digit
-// may be negative: its size is searched, since a string with every digit negated is worth the negative and weighs the same.)
-fn within(odds: usize, places: u8, size: usize, weight: u8) -> bool
-    requires { ⌜ (1 ≤ odds) × (2 * odds ≤ mostNumber + 1) ⌝ }
-    requires { ⌜ size ≤ mostNumber ⌝ }
-    ensures { λ r. ⌜ ((w : ℕ) → Positive odds w → Within w places (pos size) weight r) ⌝ }
+// What digit number i adds to a weight: 0 alone adds nothing.
+fn counted(i: usize) -> u8
+    ensures { λ r. ⌜ r ≡ min i 1 ⌝ }
 {
-    if weight == 0 {
-        return size == 0;
-    }
-    if places == 0 {
-        return size == 0;
-    }
-    // What is left over a digit is halved: 0 alone can stand under an even number, and an odd digit under an odd one.
-    if size % 2 == 0 {
-        return within(odds, places - 1, size / 2, weight);
-    }
-    // The odd digits leave these sizes, and no others.
-    let low = lowest(size, odds);
-    let mut count = (size + 1) / 2 + odds - low;
-    loop {
-        count -= 1;
-        if within(odds, places - 1, low + count, weight - 1) {
-            return true;
-        }
-        if count == 0 {
-            return false;
-        }
-    }
+    if i == 0 { 0 } else { 1 }
 }
 
-// The least weight of a string worth `size`. Nine places suffice for every number that is taken, so there is one.
-fn least(width: Width, size: usize) -> u8
+// The size of what is left of `size` over digit number i, in the order 0, 1, -1, 3, -3 and so on.
+fn left_over(size: usize, i: usize) -> usize
+    requires { ⌜ (size ≤ mostNumber) × (i ≤ mostNumber + 1) ⌝ }
+    ensures { λ r. ⌜ r ≡ leftOver size i ⌝ }
+{
+    if i == 0 {
+        return size;
+    }
+    if i % 2 == 0 {
+        return size + (i - 1);
+    }
+    if size < i {
+        return i - size;
+    }
+    size - i
+}
+
+// The least weight of a string worth `size`. What is left over a digit may be negative: its size is searched, since a string with every digit negated is worth
+// the negative and weighs the same.
+fn least(width: Width, places: u8, size: usize) -> u8
     requires { ⌜ Lawful (width .bits) ⌝ }
-    requires { ⌜ size ≤ mostNumber ⌝ }
-    ensures { λ r. ⌜ LeastWeight (width .bits) searchPlaces (pos size) r ⌝ }
+    requires { ⌜ (places ≤ searchPlaces) × (size ≤ mostNumber) ⌝ }
+    ensures { λ r. ⌜ Least (width .bits) places (pos size) r ⌝ }
 {
-    let odds = width.entries();
-    let mut weight: u8 = 0;
-    while weight < NOTHING {
-        if within(odds, PLACES, size, weight) {
-            return weight;
+    if places == 0 {
+        if size == 0 {
+            return 0;
         }
-        weight += 1;
+        return NOTHING;
     }
-    weight
+    let digits = width.digits();
+    let mut best = NOTHING;
+    let mut i = 0;
+    while i < digits {
+        // The places above are worth half of what is left. There is no such string where it is odd.
+        let left = left_over(size, i);
+        if left % 2 == 0 {
+            let above = least(width, places - 1, left / 2);
+            best = smaller(best, above + counted(i));
+        }
+        i += 1;
+    }
+    best
 }
 
 // What the search answers: a refusal's number, or the least weight.
@@ -92,7 +94,7 @@ fn refused(number: u8) -> Searched
     }
 }
 
-// The least weight of a string worth the number.
+// The least weight of a string worth the number. Nine places suffice for every number that is taken, so there is one.
 pub fn search(number: u32, width: u8) -> Searched
     ensures { λ r. ⌜ Search number width (r .refusal) (r .weight) ⌝ }
 {
@@ -107,7 +109,7 @@ pub fn search(number: u32, width: u8) -> Searched
             }
             Searched {
                 refusal: 0,
-                weight: least(known, number as usize),
+                weight: least(known, PLACES, number as usize),
             }
         }
     }

@@ -4,9 +4,10 @@ use mathlib.Core.Logic.{⊎-elim}
 use borrow.Author.Needs.{needs}
 use native.Mathlib.Omega.{arith}
 use lib.IntN.{pos}
-use Rattle.meaning.specs.Searching.{searchPlaces, LeastWeight}
+use Rattle.meaning.specs.Searching.{searchPlaces}
 use Rattle.width.specs.Widths.{Lawful}
 use Rattle.width.proofs.Widths.{known-bits, known-lawful, known-width, known-bad}
+use Rattle.search.specs.Least.{Least}
 use Rattle.search.proofs.Answers.{refuses-width, refuses-number, accepts}
 use Rattle.search.proofs.search.Statement.{statement}
 use Rattle.search.proofs.search.Tie as tie
@@ -59,7 +60,7 @@ returns-4 c =
     let a = k .before .before .before .args in
     let is = known-bits _ (k .before .before .known .ensures) (k .known2 .given .1) in
     accepts _ _ (lawful k .0) (c .before .before .if1 .left) (c .before .if2 .left)
-    (subst (λ b. LeastWeight b searchPlaces (pos (a .number)) (c .least .result)) is (c .least .ensures))
+    (subst (λ b. Least b searchPlaces (pos (a .number)) (c .least .result)) is (c .least .ensures))
 
 pub search-spec : {M : Type 1} → statement M
 search-spec =
