@@ -8,7 +8,7 @@ use native.Mathlib.Decide.{decLt}
 use native.Mathlib.Omega.{arith}
 use lib.IntN.{ℤ, pos, negℤ, natAbs, _+ℤ_, _*ℤ_}
 use lib.ListN.{getD}
-use Rattle.meaning.specs.Digits.{largest, nonzero}
+use Rattle.meaning.specs.Digits.{largest}
 use Rattle.meaning.specs.Searching.{searchPlaces, Spells}
 use Rattle.width.specs.Widths.{Lawful}
 use Rattle.search.specs.Least.{nothing, digitAt, leftOver, Least}
