@@ -109,7 +109,7 @@ fn opening(w: Width, scalar: &[u8], place: usize) -> Taken
 {
     let bits = scalar::window(scalar, place - 1, w.bits());
     if windows::opening::opens(w, bits) {
-        let found = windows::opening::placed(w, windows::work_out(w, bits, 0), place);
+        let found = windows::opening::placed(w, windows::look_up(w, bits), place);
         return pass(place, found.unit, found.spot, found.left);
     }
     pass(place, 0, 0, place - 1)

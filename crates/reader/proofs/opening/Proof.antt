@@ -1,4 +1,4 @@
--- `reader::opening` meets its contract: the two leading bits of the window tell whether it opens, and then it is worked out. Assumes nothing.
+-- `reader::opening` meets its contract: the two leading bits of the window tell whether it opens, and then it is looked up. Assumes nothing.
 use mathlib.Core.Path.{_≡_, refl, _∙_}
 use mathlib.Core.Logic.{_≢_}
 use Prim.Native.Nat.{suc, _-_}
@@ -11,7 +11,7 @@ use Rattle.meaning.specs.Scalars.{number, bit, below}
 use Rattle.meaning.specs.Windows.{windowBits, twos, oddPart}
 use Rattle.meaning.specs.Wmof.{windowAt}
 use Rattle.windows.specs.Parts.{Parts}
-use Rattle.windows.proofs.Opened.{opened-lt, opened-at, bits-same, bits-differ, worked, puts}
+use Rattle.windows.proofs.Opened.{opened-lt, opened-at, bits-same, bits-differ, looked, puts}
 use Rattle.reader.proofs.Takes.{opened-none, opened-some}
 use Rattle.reader.proofs.opening.Statement.{statement}
 use Rattle.reader.proofs.opening.Tie as tie
@@ -29,15 +29,15 @@ differ c =
     let o = c .before in
     bits-differ (a .w .bits) (number (now (a .scalar))) (a .place - 1) (o .before .window .result) (omega arith) (seen (o .before)) (o .opens .result) (o .opens .ensures) (c .if1 .taken)
 
--- and which is then worked out
-found : (c : tie.After-work-out)
+-- and which is then looked up
+found : (c : tie.After-look-up)
     → let a = c .before .before .before .before .before .before .args in
     let v = windowAt (a .w .bits) (number (now (a .scalar))) (a .place - 1) in
-    Parts (a .w .bits) (oddPart (a .w .bits) v) (twos (a .w .bits) v) (c .work-out .result)
+    Parts (a .w .bits) (oddPart (a .w .bits) v) (twos (a .w .bits) v) (c .look-up .result)
 found c =
     let a = c .before .before .before .before .before .before .args in
     let o = c .before .before .before in
-    worked (a .w .bits) (number (now (a .scalar))) (a .place - 1) (o .window .result) (omega arith) (seen o) (c .work-out .ensures)
+    looked (a .w .bits) (number (now (a .scalar))) (a .place - 1) (o .window .result) (omega arith) (seen o) (differ (c .before)) (c .look-up .ensures)
 
 sub-window : tie.Need-sub-window
 sub-window c = search needs
@@ -51,10 +51,10 @@ window-requires c κs = search needs
 opens-requires : tie.Need-opens-requires
 opens-requires c κs = search needs
 
-work-out-requires : tie.Need-work-out-requires
-work-out-requires c κs =
+look-up-requires : tie.Need-look-up-requires
+look-up-requires c κs =
     let a = c .before .before .before .before .before .args in
-    (omega arith, (rw (seen (c .before .before)) (opened-lt (a .w .bits) (number (now (a .scalar))) (a .place - 1)), (c .before .opens .ensures .yes (c .if1 .taken), omega arith)))
+    (omega arith, rw (seen (c .before .before)) (opened-lt (a .w .bits) (number (now (a .scalar))) (a .place - 1)))
 
 placed-requires : tie.Need-placed-requires
 placed-requires c κs =
@@ -92,4 +92,4 @@ returns-2 c =
 pub opening-spec : {M : Type 1} → statement M
 opening-spec =
     tie.close
-    (tie.spec sub-window bits-requires window-requires opens-requires work-out-requires placed-requires pass-requires returns sub-pass pass-requires-2 returns-2)
+    (tie.spec sub-window bits-requires window-requires opens-requires look-up-requires placed-requires pass-requires returns sub-pass pass-requires-2 returns-2)
