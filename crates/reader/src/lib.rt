@@ -27,7 +27,8 @@ pub struct Reader<'a> {
     pub refusal: u8,
 }
 
-// A reader without its scalar.
+// A reader without its scalar. A caller in C keeps one between calls.
+#[repr(C)]
 pub struct State {
     pub place: usize,
     pub width: u8,

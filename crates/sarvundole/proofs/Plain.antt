@@ -1,8 +1,8 @@
 -- Answers that hold an enum, told by plain numbers.
 -- Assumes nothing.
-use mathlib.Core.Path.{_≡_, subst, ap}
+use mathlib.Core.Path.{_≡_, subst, sym, ap, _∙_}
 use mathlib.Core.List.{List}
-use Prim.Native.Nat.{ℕ}
+use Prim.Native.Nat.{ℕ, suc}
 use Rattle.meaning.specs.Running.{Run}
 use Rattle.meaning.specs.Reading.{sequence, readAt}
 use Rattle.run.specs.declared.Outcome.{Outcome}
@@ -10,8 +10,13 @@ use Rattle.run.specs.declared.Ran.{Ran}
 use Rattle.run.specs.Outcomes.{refusalOf, placeOf, residueOf, Promise}
 use Rattle.reader.specs.declared.Next.{Next}
 use Rattle.reader.specs.declared.Reading.{Reading}
+use Rattle.reader.specs.declared.State.{State}
+use Rattle.reader.specs.declared.Taken.{Taken}
+use Rattle.reader.specs.States.{call, moved, After}
 use Rattle.reader.specs.Calls.{readOf, Answered}
+use Rattle.reader.proofs.Calls.{after-call, after-reads}
 use Rattle.sarvundole.specs.Reads.{given, digitOf, Reads}
+use Rattle.sarvundole.specs.Steps.{Steps}
 
 -- a run whose outcome is o
 pub ran : {w : ℕ} {ws : List ℕ} {m g : ℕ} {multiples₀ : List ℕ} {r : Ran} {multiples : List ℕ} {o : Outcome}
@@ -25,3 +30,18 @@ pub read : {w : ℕ} {s : List ℕ} {k : ℕ} {r : Reading} {x : Next} → r .ne
 read {w} {s} {k} {r} q a =
     let shown = subst (λ y. readOf y ≡ readAt (sequence (r .refusal) w s) k) q (a .gives) in
     record { holds = a .holds; given-is = ap given shown; digit-is = ap digitOf shown }
+
+-- a call that takes t and gives x
+pub stepped : {s : List ℕ} {before after : State} {t : Taken} {x : Next} → t .next ≡ x → t ≡ call s before → after ≡ moved before t
+    → Steps s before after (given (readOf x)) (digitOf (readOf x))
+stepped {s} {before} {after} {t} {x} q e m =
+    let shown : readOf x ≡ readOf (call s before .next) = ap readOf (sym q) ∙ ap (λ y. readOf (y .next)) e in
+    let state = m ∙ ap (moved before) e in
+    record {
+      given-is = ap given shown;
+      digit-is = ap digitOf shown;
+      after-is = state;
+      reads-given = λ w k A. ap given (shown ∙ after-reads A);
+      reads-digit = λ w k A. ap digitOf (shown ∙ after-reads A);
+      counts = λ w k A. subst (After w s (suc k)) (sym state) (after-call A);
+    }

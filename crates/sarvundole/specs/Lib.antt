@@ -1,2 +1,3 @@
 -- What the contracts of this crate cite beside `meaning`.
 pub mod Reads
+pub mod Steps

@@ -4,8 +4,11 @@ ghost use Rattle.meaning.specs.Checking.{checkRules, nonadjacentRules, Check};
 ghost use Rattle.meaning.specs.Taping.{Tape};
 ghost use Rattle.meaning.specs.Running.{Run};
 ghost use Rattle.meaning.specs.Searching.{Search};
+ghost use Rattle.reader.specs.States.{After};
 ghost use Rattle.sarvundole.specs.Reads.{Reads};
+ghost use Rattle.sarvundole.specs.Steps.{Steps};
 use reader::Next;
+use reader::State;
 use run::Outcome;
 
 // What recode and the checks answer.
@@ -41,6 +44,14 @@ pub struct Ran {
 #[repr(C)]
 pub struct Reading {
     pub refusal: u8,
+    pub given: u8,
+    pub digit: i8,
+}
+
+// A reader after one call more, and what the call gave.
+#[repr(C)]
+pub struct Stepped {
+    pub reader: State,
     pub given: u8,
     pub digit: i8,
 }
@@ -156,6 +167,34 @@ pub extern "C" fn sarvundole_read_at(width: u8, scalar: &[u8], calls: u16) -> Re
         },
         Next::Done => Reading {
             refusal: made.refusal,
+            given: 0,
+            digit: 0,
+        },
+    }
+}
+
+#[no_mangle]
+pub extern "C" fn sarvundole_reader_start(width: u8, scalar: &[u8]) -> State
+    ensures { λ r. ⌜ After width (now (scalar .entry)) 0 r ⌝ }
+{
+    reader::start(width, scalar)
+}
+
+#[no_mangle]
+pub extern "C" fn sarvundole_reader_next(scalar: &[u8], reader: State) -> Stepped
+    ensures { λ r. ⌜ Steps (now (scalar .entry)) reader (r .reader) (r .given) (r .digit) ⌝ }
+{
+    let taken = reader::call(scalar, reader);
+    let after = reader::moved(reader, taken);
+    let next = taken.next;
+    match next {
+        Next::Digit(digit) => Stepped {
+            reader: after,
+            given: 1,
+            digit,
+        },
+        Next::Done => Stepped {
+            reader: after,
             given: 0,
             digit: 0,
         },
