@@ -92,6 +92,25 @@ typedef struct sarvundole_reading {
     int8_t digit;
 } sarvundole_reading;
 
+/* A reader between two calls. The caller keeps it as it was given, beside the scalar that it was started from; `refusal` alone is to be
+ * read: 0, or the number of the rule that the input breaks. `place` counts the places to come, and those from `floor` up belong to one
+ * window, whose digit `pending` stands at `spot`. */
+typedef struct sarvundole_reader {
+    size_t place;
+    uint8_t width;
+    int8_t pending;
+    size_t spot;
+    size_t floor;
+    uint8_t refusal;
+} sarvundole_reader;
+
+/* What reader_next answers: the reader after the call, and `given` and `digit` as read_at's. */
+typedef struct sarvundole_stepped {
+    sarvundole_reader reader;
+    uint8_t given;
+    int8_t digit;
+} sarvundole_stepped;
+
 /* What search answers: the least weight. */
 typedef struct sarvundole_searched {
     uint8_t refusal;
@@ -122,8 +141,18 @@ sarvundole_taped sarvundole_tape(uint8_t width, const int8_t *digits, size_t pla
 sarvundole_ran sarvundole_run(uint8_t width, const uint16_t *tape, size_t words, uint32_t modulus, uint32_t base, uint32_t *multiples,
                               size_t room);
 
-/* Reads wMOF one digit a call, places n down to 0, then done at every later call: this is what the call after `calls` others gives.
- * Made from refused input, a reader holds the number and is done at once. Lent: the scalar. Refusals: 2, 3. */
+/* Starts a reader, which gives wMOF one digit a call, places n down to 0, then says done at every later call. Started from refused input,
+ * it holds the number and is done at once. Lent: the scalar. Refusals: 2, 3. */
+sarvundole_reader sarvundole_reader_start(uint8_t width, const uint8_t *scalar, size_t bytes);
+
+/* The reader's next call. The scalar is lent again: it has to be the one that the reader was started from, and `reader` what the start or
+ * the last call gave. Any other reader is taken too. It gives `pending` at `spot` and 0 at each other place while `place` is over `floor`;
+ * then wMOF's window that opens under a `place` from 1 to 529 at a width of 2 to 8, where bits above the scalar are 0; and it is done where
+ * no window can open. Lent: the scalar. */
+sarvundole_stepped sarvundole_reader_next(const uint8_t *scalar, size_t bytes, sarvundole_reader reader);
+
+/* What a reader's call after `calls` others gives, for a caller that keeps no reader. It reads from the top each time: a whole sequence
+ * costs less by reader_next. Lent: the scalar. Refusals: 2, 3. */
 sarvundole_reading sarvundole_read_at(uint8_t width, const uint8_t *scalar, size_t bytes, uint16_t calls);
 
 /* Answers the least weight of any string of nine places that is worth a number up to 127, at width 2 or 3. Refusals: 2, 3. */

@@ -16,6 +16,11 @@ enum { MOST_LINE = 8192, MOST_ANSWER = 4096, REST = 0xC3 };
 
 static size_t page;
 
+static void refuse(const char *why) {
+    fprintf(stderr, "c_callers: %s\n", why);
+    exit(1);
+}
+
 /* ---- lent memory */
 typedef struct {
     uint8_t *start;
@@ -60,10 +65,7 @@ static void *lend_to_write(memory *m, size_t count, size_t size, uint64_t lent, 
 static void given_back(memory *m) {
     if (m->reading) protect(m, PROT_READ | PROT_WRITE);
     for (uint8_t *at = m->start; at < m->start + page; at++)
-        if ((at < m->lent || at >= m->lent + m->bytes) && *at != REST) {
-            fprintf(stderr, "c_callers: a byte beside what was lent has changed\n");
-            exit(1);
-        }
+        if ((at < m->lent || at >= m->lent + m->bytes) && *at != REST) refuse("a byte beside what was lent has changed");
 }
 
 /* ---- frames and answers */
@@ -142,16 +144,43 @@ static void run(int at_end) {
     put_lent(&multiples, 4);
 }
 
+/* The digits one after another, each held to what a caller gets that keeps no reader. */
 static void read_all(int at_end) {
     uint8_t width = (uint8_t)take(1);
     size_t calls = take(2), bytes = left;
     const uint8_t *s = lend(&scalars, bytes, at_end, frame);
-    put(sarvundole_read_at(width, s, bytes, 0).refusal, 1);
+    sarvundole_reader reader = sarvundole_reader_start(width, s, bytes);
+    put(reader.refusal, 1);
     for (size_t k = 0; k < calls; k++) {
+        sarvundole_stepped next = sarvundole_reader_next(s, bytes, reader);
         sarvundole_reading r = sarvundole_read_at(width, s, bytes, (uint16_t)k);
-        put(r.given, 1), put((uint8_t)r.digit, 1);
+        if (r.refusal != reader.refusal || r.given != next.given || r.digit != next.digit) refuse("a reader that is kept gives another digit");
+        put(next.given, 1), put((uint8_t)next.digit, 1);
+        reader = next.reader;
     }
     given_back(&scalars);
+}
+
+/* Readers that no start gave: inside a window the digit stands at its spot; where no window can open the reader is done. What is above the
+ * scalar's bits is 0. The parts that a call does not move are kept. */
+static void made_up(size_t place, size_t floor, uint8_t width, size_t spot, int at_end) {
+    const uint8_t bytes[] = {0xFF, 0x0D};
+    const sarvundole_reader r = {place, width, -77, spot, floor, 99};
+    const sarvundole_stepped next = sarvundole_reader_next(lend(&scalars, sizeof bytes, at_end, bytes), sizeof bytes, r);
+    const int inside = floor < place, opens = 0 < place && place <= SARVUNDOLE_MOST_PLACES && 2 <= width && width <= 8;
+    given_back(&scalars);
+    if (next.given != (inside || opens) || next.reader.place != (next.given ? place - 1 : 0)) refuse("a made-up reader is done, or is not");
+    if (next.reader.width != width || next.reader.refusal != 99) refuse("a made-up reader is not kept");
+    if ((inside || !opens) && (next.reader.pending != -77 || next.reader.spot != spot || next.reader.floor != floor)) refuse("a window is not kept");
+    if (inside ? next.digit != (place - 1 == spot ? -77 : 0) : (!opens || place > 8 * sizeof bytes + 1) && next.digit != 0) refuse("a made-up reader's digit");
+}
+
+static void made_up_all(void) {
+    const size_t places[] = {0, 1, 2, 17, 18, 528, 529, 530, SIZE_MAX - 1, SIZE_MAX};
+    const size_t count = sizeof places / sizeof *places;
+    for (size_t i = 0; i < count * count; i++)
+        for (unsigned width = 0; width < 256; width++)
+            for (int at_end = 0; at_end < 2; at_end++) made_up(places[i % count], places[i / count], (uint8_t)width, places[i % count] - width % 3, at_end);
 }
 
 static void search(void) {
@@ -182,6 +211,7 @@ int main(void) {
     page = (size_t)sysconf(_SC_PAGESIZE);
     memory *const all[] = {&scalars, &strings, &tapes, &digits, &marks, &words, &multiples};
     for (size_t i = 0; i < sizeof all / sizeof *all; i++) make(all[i]);
+    made_up_all();
     while (fgets(line, sizeof line, stdin)) {
         size_t bytes = strcspn(line, "\n") / 2;
         for (size_t i = 0; i < bytes; i++) {
@@ -193,10 +223,7 @@ int main(void) {
         memcpy(before, answer, answered);
         size_t long_before = answered;
         call(data, bytes, 1);
-        if (answered != long_before || memcmp(before, answer, answered)) {
-            fprintf(stderr, "c_callers: the place of the buffers changes the answer\n");
-            return 1;
-        }
+        if (answered != long_before || memcmp(before, answer, answered)) refuse("the place of the buffers changes the answer");
         for (size_t i = 0; i < answered; i++) printf("%02X", answer[i]);
         putchar('\n');
     }
