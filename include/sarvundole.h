@@ -96,11 +96,11 @@ typedef struct sarvundole_reading {
  * read: 0, or the number of the rule that the input breaks. `place` counts the places to come, and those from `floor` up belong to one
  * window, whose digit `pending` stands at `spot`. */
 typedef struct sarvundole_reader {
-    size_t place;
+    uint16_t place;
+    uint16_t spot;
+    uint16_t floor;
     uint8_t width;
     int8_t pending;
-    size_t spot;
-    size_t floor;
     uint8_t refusal;
 } sarvundole_reader;
 

@@ -161,26 +161,29 @@ static void read_all(int at_end) {
     given_back(&scalars);
 }
 
-/* Readers that no start gave: inside a window the digit stands at its spot; where no window can open the reader is done. What is above the
- * scalar's bits is 0. The parts that a call does not move are kept. */
-static void made_up(size_t place, size_t floor, uint8_t width, size_t spot, int at_end) {
-    const uint8_t bytes[] = {0xFF, 0x0D};
-    const sarvundole_reader r = {place, width, -77, spot, floor, 99};
-    const sarvundole_stepped next = sarvundole_reader_next(lend(&scalars, sizeof bytes, at_end, bytes), sizeof bytes, r);
+/* A reader that no start gave: inside a window the digit stands at its spot; where no window can open the reader is done. What is above the
+ * scalar's bits is 0. What a call does not move is kept. */
+static void made_up(uint16_t place, uint16_t spot, uint16_t floor, uint8_t width, int at_end) {
+    const uint8_t scalar[] = {0xFF, 0x0D};
+    const sarvundole_reader r = {place, spot, floor, width, -77, 99};
+    const sarvundole_stepped next = sarvundole_reader_next(lend(&scalars, sizeof scalar, at_end, scalar), sizeof scalar, r);
     const int inside = floor < place, opens = 0 < place && place <= SARVUNDOLE_MOST_PLACES && 2 <= width && width <= 8;
+    const int kept = inside || !opens, known = kept || place > 8 * sizeof scalar + 1;
     given_back(&scalars);
-    if (next.given != (inside || opens) || next.reader.place != (next.given ? place - 1 : 0)) refuse("a made-up reader is done, or is not");
+    if (next.given != (inside || opens)) refuse("a made-up reader is done, or is not");
+    if (known && next.digit != (inside && place - 1 == spot ? -77 : 0)) refuse("a made-up reader gives another digit");
+    if (next.reader.place != (next.given ? place - 1 : 0)) refuse("a made-up reader is at another place");
+    if (kept && (next.reader.spot != spot || next.reader.floor != floor || next.reader.pending != -77)) refuse("a made-up window is not kept");
     if (next.reader.width != width || next.reader.refusal != 99) refuse("a made-up reader is not kept");
-    if ((inside || !opens) && (next.reader.pending != -77 || next.reader.spot != spot || next.reader.floor != floor)) refuse("a window is not kept");
-    if (inside ? next.digit != (place - 1 == spot ? -77 : 0) : (!opens || place > 8 * sizeof bytes + 1) && next.digit != 0) refuse("a made-up reader's digit");
 }
 
 static void made_up_all(void) {
-    const size_t places[] = {0, 1, 2, 17, 18, 528, 529, 530, SIZE_MAX - 1, SIZE_MAX};
+    static const uint16_t places[] = {0, 1, 2, 17, 18, 528, 529, 530, 65534, 65535};
     const size_t count = sizeof places / sizeof *places;
-    for (size_t i = 0; i < count * count; i++)
-        for (unsigned width = 0; width < 256; width++)
-            for (int at_end = 0; at_end < 2; at_end++) made_up(places[i % count], places[i / count], (uint8_t)width, places[i % count] - width % 3, at_end);
+    for (size_t i = 0; i < count * count * count; i++)
+        for (unsigned width = 0; width < 10; width++)
+            for (int at_end = 0; at_end < 2; at_end++)
+                made_up(places[i % count], places[i / count % count], places[i / count / count], (uint8_t)width, at_end);
 }
 
 static void search(void) {

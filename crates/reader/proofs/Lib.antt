@@ -2,4 +2,5 @@
 pub mod Starts
 pub mod Takes
 pub mod Stands
+pub mod Bounds
 pub mod Calls

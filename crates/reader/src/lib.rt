@@ -27,8 +27,7 @@ pub struct Reader<'a> {
     pub refusal: u8,
 }
 
-// A reader without its scalar. A caller in C keeps one between calls.
-#[repr(C)]
+// A reader without its scalar.
 pub struct State {
     pub place: usize,
     pub width: u8,

@@ -1,6 +1,6 @@
 -- Answers that hold an enum, told by plain numbers.
 -- Assumes nothing.
-use mathlib.Core.Path.{_≡_, subst, sym, ap, _∙_}
+use mathlib.Core.Path.{_≡_, subst, sym, ap, ap₂, _∙_}
 use mathlib.Core.List.{List}
 use Prim.Native.Nat.{ℕ, suc}
 use Rattle.meaning.specs.Running.{Run}
@@ -31,17 +31,18 @@ read {w} {s} {k} {r} q a =
     let shown = subst (λ y. readOf y ≡ readAt (sequence (r .refusal) w s) k) q (a .gives) in
     record { holds = a .holds; given-is = ap given shown; digit-is = ap digitOf shown }
 
--- a call that takes t and gives x
-pub stepped : {s : List ℕ} {before after : State} {t : Taken} {x : Next} → t .next ≡ x → t ≡ call s before → after ≡ moved before t
+-- a call that takes t from a state and gives x
+pub stepped : {s : List ℕ} {before state after : State} {t : Taken} {x : Next} → state ≡ before → t ≡ call s state → after ≡ moved state t → t .next ≡ x
     → Steps s before after (given (readOf x)) (digitOf (readOf x))
-stepped {s} {before} {after} {t} {x} q e m =
-    let shown : readOf x ≡ readOf (call s before .next) = ap readOf (sym q) ∙ ap (λ y. readOf (y .next)) e in
-    let state = m ∙ ap (moved before) e in
+stepped {s} {before} {state} {after} {t} {x} b e m q =
+    let taken : t ≡ call s before = e ∙ ap (call s) b in
+    let shown : readOf x ≡ readOf (call s before .next) = ap readOf (sym q) ∙ ap (λ y. readOf (y .next)) taken in
+    let left : after ≡ moved before (call s before) = m ∙ ap₂ moved b taken in
     record {
       given-is = ap given shown;
       digit-is = ap digitOf shown;
-      after-is = state;
+      after-is = left;
       reads-given = λ w k A. ap given (shown ∙ after-reads A);
       reads-digit = λ w k A. ap digitOf (shown ∙ after-reads A);
-      counts = λ w k A. subst (After w s (suc k)) (sym state) (after-call A);
+      counts = λ w k A. subst (After w s (suc k)) (sym left) (after-call A);
     }

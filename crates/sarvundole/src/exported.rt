@@ -1,4 +1,5 @@
 // The calls for C. A slice is a pointer and a count there, and an answer a struct by value. Each promises what the call that it makes promises.
+ghost use mathlib.Core.Path.{_≡_};
 ghost use Rattle.meaning.specs.Recoding.{Recode};
 ghost use Rattle.meaning.specs.Checking.{checkRules, nonadjacentRules, Check};
 ghost use Rattle.meaning.specs.Taping.{Tape};
@@ -6,6 +7,7 @@ ghost use Rattle.meaning.specs.Running.{Run};
 ghost use Rattle.meaning.specs.Searching.{Search};
 ghost use Rattle.reader.specs.States.{After};
 ghost use Rattle.sarvundole.specs.Reads.{Reads};
+ghost use Rattle.sarvundole.specs.Kept.{stateOf, Small};
 ghost use Rattle.sarvundole.specs.Steps.{Steps};
 use reader::Next;
 use reader::State;
@@ -48,10 +50,21 @@ pub struct Reading {
     pub digit: i8,
 }
 
+// A reader's state as a caller keeps it: small enough to be passed in registers.
+#[repr(C)]
+pub struct Reader {
+    pub place: u16,
+    pub spot: u16,
+    pub floor: u16,
+    pub width: u8,
+    pub pending: i8,
+    pub refusal: u8,
+}
+
 // A reader after one call more, and what the call gave.
 #[repr(C)]
 pub struct Stepped {
-    pub reader: State,
+    pub reader: Reader,
     pub given: u8,
     pub digit: i8,
 }
@@ -173,19 +186,49 @@ pub extern "C" fn sarvundole_read_at(width: u8, scalar: &[u8], calls: u16) -> Re
     }
 }
 
-#[no_mangle]
-pub extern "C" fn sarvundole_reader_start(width: u8, scalar: &[u8]) -> State
-    ensures { λ r. ⌜ After width (now (scalar .entry)) 0 r ⌝ }
+// The state of a reader that is kept.
+fn state(reader: Reader) -> State
+    ensures { λ r. ⌜ (r ≡ stateOf reader) × Small r ⌝ }
 {
-    reader::start(width, scalar)
+    State {
+        place: reader.place as usize,
+        width: reader.width,
+        pending: reader.pending,
+        spot: reader.spot as usize,
+        floor: reader.floor as usize,
+        refusal: reader.refusal,
+    }
+}
+
+// The reader to keep for a state.
+fn kept(state: State) -> Reader
+    requires { ⌜ Small state ⌝ }
+    ensures { λ r. ⌜ stateOf r ≡ state ⌝ }
+{
+    Reader {
+        place: state.place as u16,
+        spot: state.spot as u16,
+        floor: state.floor as u16,
+        width: state.width,
+        pending: state.pending,
+        refusal: state.refusal,
+    }
 }
 
 #[no_mangle]
-pub extern "C" fn sarvundole_reader_next(scalar: &[u8], reader: State) -> Stepped
-    ensures { λ r. ⌜ Steps (now (scalar .entry)) reader (r .reader) (r .given) (r .digit) ⌝ }
+pub extern "C" fn sarvundole_reader_start(width: u8, scalar: &[u8]) -> Reader
+    ensures { λ r. ⌜ After width (now (scalar .entry)) 0 (stateOf r) ⌝ }
 {
-    let taken = reader::call(scalar, reader);
-    let after = reader::moved(reader, taken);
+    kept(reader::start(width, scalar))
+}
+
+#[no_mangle]
+pub extern "C" fn sarvundole_reader_next(scalar: &[u8], reader: Reader) -> Stepped
+    ensures { λ r. ⌜ Steps (now (scalar .entry)) (stateOf reader) (stateOf (r .reader)) (r .given) (r .digit) ⌝ }
+{
+    let before = state(reader);
+    let taken = reader::call(scalar, before);
+    let after = kept(reader::moved(before, taken));
     let next = taken.next;
     match next {
         Next::Digit(digit) => Stepped {

@@ -1,16 +1,30 @@
 -- `sarvundole::exported::sarvundole_reader_next` meets its contract: what the call gives is told by its fields, beside the state after it. Assumes nothing.
+use mathlib.Core.Path.{subst, sym, ap, _∙_}
 use borrow.Author.Needs.{needs}
+use denote.Ref.{now}
 use mir.Facts.{toZ-ofZ}
 use mir.Syntax.{w8}
+use Rattle.reader.specs.States.{moved}
+use Rattle.sarvundole.specs.Kept.{Small}
 use Rattle.sarvundole.proofs.Plain.{stepped}
+use Rattle.sarvundole.proofs.Kept.{moves-small}
 use Rattle.sarvundole.proofs.exported.sarvundole_reader_next.Statement.{statement}
 use Rattle.sarvundole.proofs.exported.sarvundole_reader_next.Tie as tie
+
+state-requires : tie.Need-state-requires
+state-requires c κs = search needs
 
 call-requires : tie.Need-call-requires
 call-requires c κs = search needs
 
 moved-requires : tie.Need-moved-requires
 moved-requires c κs = search needs
+
+kept-requires : tie.Need-kept-requires
+kept-requires c κs =
+    let b = c .before .before in
+    let a = b .before .before .args in
+    subst Small (sym (c .moved .ensures ∙ ap (moved (b .state .result)) (c .before .call .ensures))) (moves-small (now (a .scalar)) (b .state .result) (b .state .ensures .1))
 
 enum-known-next : tie.Need-enum-known-next
 enum-known-next c = search needs
@@ -20,14 +34,26 @@ enum-told c = search needs
 
 returns : tie.Need-returns
 returns c =
-    let m = c .before .before .before in
-    rw (toZ-ofZ {w = w8} (record { sfits = c .known-told .given .0 .1 })) (stepped (c .before .next .given .1) (m .before .call .ensures) (m .moved .ensures))
+    let k = c .before .before .before in
+    let m = k .before in
+    rw (toZ-ofZ {w = w8} (record { sfits = c .known-told .given .0 .1 }))
+    (stepped (m .before .before .state .ensures .0) (m .before .call .ensures) (k .kept .ensures ∙ m .moved .ensures) (c .before .next .given .1))
 
 returns-2 : tie.Need-returns-2
 returns-2 c =
-    let m = c .before .before in
-    stepped (c .enum-told .given .1) (m .before .call .ensures) (m .moved .ensures)
+    let k = c .before .before in
+    let m = k .before in
+    stepped (m .before .before .state .ensures .0) (m .before .call .ensures) (k .kept .ensures ∙ m .moved .ensures) (c .enum-told .given .1)
 
 pub sarvundole-reader-next-spec : {M : Type 1} → statement M
 sarvundole-reader-next-spec =
-    tie.close (tie.spec call-requires moved-requires enum-known-next enum-told returns returns-2)
+    tie.close
+    (tie.spec
+    state-requires
+    call-requires
+    moved-requires
+    kept-requires
+    enum-known-next
+    enum-told
+    returns
+    returns-2)

@@ -1,0 +1,22 @@
+-- `sarvundole::exported::sarvundole_reader_start` meets its contract: what is kept is the state that a reader starts with. Assumes nothing.
+use mathlib.Core.Path.{subst, sym}
+use borrow.Author.Needs.{needs}
+use denote.Ref.{now}
+use Rattle.reader.specs.States.{After}
+use Rattle.sarvundole.proofs.Kept.{starts-small}
+use Rattle.sarvundole.proofs.exported.sarvundole_reader_start.Statement.{statement}
+use Rattle.sarvundole.proofs.exported.sarvundole_reader_start.Tie as tie
+
+start-requires : tie.Need-start-requires
+start-requires c κs = search needs
+
+kept-requires : tie.Need-kept-requires
+kept-requires c κs = starts-small (c .start .ensures)
+
+returns : tie.Need-returns
+returns c =
+    let a = c .before .before .before .args in
+    subst (After (a .width) (now (a .scalar)) 0) (sym (c .kept .ensures)) (c .before .start .ensures)
+
+pub sarvundole-reader-start-spec : {M : Type 1} → statement M
+sarvundole-reader-start-spec = tie.close (tie.spec start-requires kept-requires returns)
