@@ -6,7 +6,7 @@ ghost use Rattle.meaning.specs.Taping.{Tape};
 ghost use Rattle.meaning.specs.Running.{Run};
 ghost use Rattle.meaning.specs.Searching.{Search};
 ghost use Rattle.reader.specs.States.{After};
-ghost use Rattle.sarvundole.specs.Reads.{Reads};
+ghost use Rattle.sarvundole.specs.Reads.{Tells, Reads};
 ghost use Rattle.sarvundole.specs.Kept.{stateOf, Small};
 ghost use Rattle.sarvundole.specs.Steps.{Steps};
 use reader::Next;
@@ -166,23 +166,32 @@ pub extern "C" fn sarvundole_run(
     }
 }
 
+// What a call of the reader gives, in plain numbers.
+struct Given {
+    given: u8,
+    digit: i8,
+}
+
+fn told(next: Next) -> Given
+    ensures { λ r. ⌜ Tells next (r .given) (r .digit) ⌝ }
+{
+    match next {
+        Next::Digit(digit) => Given { given: 1, digit },
+        Next::Done => Given { given: 0, digit: 0 },
+    }
+}
+
 #[no_mangle]
 pub extern "C" fn sarvundole_read_at(width: u8, scalar: &[u8], calls: u16) -> Reading
     ensures { λ r. ⌜ Reads width (now (scalar .entry)) calls (r .refusal) (r .given) (r .digit) ⌝ }
 {
     let made = reader::read_at(width, scalar, calls);
     let next = made.next;
-    match next {
-        Next::Digit(digit) => Reading {
-            refusal: made.refusal,
-            given: 1,
-            digit,
-        },
-        Next::Done => Reading {
-            refusal: made.refusal,
-            given: 0,
-            digit: 0,
-        },
+    let told = told(next);
+    Reading {
+        refusal: made.refusal,
+        given: told.given,
+        digit: told.digit,
     }
 }
 
@@ -230,17 +239,11 @@ pub extern "C" fn sarvundole_reader_next(scalar: &[u8], reader: Reader) -> Stepp
     let taken = reader::call(scalar, before);
     let after = kept(reader::moved(before, taken));
     let next = taken.next;
-    match next {
-        Next::Digit(digit) => Stepped {
-            reader: after,
-            given: 1,
-            digit,
-        },
-        Next::Done => Stepped {
-            reader: after,
-            given: 0,
-            digit: 0,
-        },
+    let told = told(next);
+    Stepped {
+        reader: after,
+        given: told.given,
+        digit: told.digit,
     }
 }
 

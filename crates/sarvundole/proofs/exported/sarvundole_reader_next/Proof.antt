@@ -1,6 +1,6 @@
 -- `sarvundole::exported::sarvundole_reader_next` meets its contract: what the call gives is told by its fields, beside the state after it. Assumes nothing.
 use mathlib.Core.Path.{subst, sym, ap, _∙_}
-use borrow.Author.Needs.{needs}
+use borrow.Author.Needs.{needs, sfits-of}
 use denote.Ref.{now}
 use mir.Facts.{toZ-ofZ}
 use mir.Syntax.{w8}
@@ -26,34 +26,17 @@ kept-requires c κs =
     let a = b .before .before .args in
     subst Small (sym (c .moved .ensures ∙ ap (moved (b .state .result)) (c .before .call .ensures))) (moves-small (now (a .scalar)) (b .state .result) (b .state .ensures .1))
 
-enum-known-next : tie.Need-enum-known-next
-enum-known-next c = search needs
-
-enum-told : tie.Need-enum-told
-enum-told c = search needs
+told-requires : tie.Need-told-requires
+told-requires c κs = search needs
 
 returns : tie.Need-returns
 returns c =
-    let k = c .before .before .before in
-    let m = k .before in
-    rw (toZ-ofZ {w = w8} (record { sfits = c .known-told .given .0 .1 }))
-    (stepped (m .before .before .state .ensures .0) (m .before .call .ensures) (k .kept .ensures ∙ m .moved .ensures) (c .before .next .given .1))
-
-returns-2 : tie.Need-returns-2
-returns-2 c =
     let k = c .before .before in
     let m = k .before in
-    stepped (m .before .before .state .ensures .0) (m .before .call .ensures) (k .kept .ensures ∙ m .moved .ensures) (c .enum-told .given .1)
+    rw (toZ-ofZ {w = w8} (sfits-of (c .struct-told .given .1 .0 .1)))
+    (stepped (m .before .before .state .ensures .0) (m .before .call .ensures) (k .kept .ensures ∙ m .moved .ensures) (c .before .told .ensures))
 
 pub sarvundole-reader-next-spec : {M : Type 1} → statement M
 sarvundole-reader-next-spec =
     tie.close
-    (tie.spec
-    state-requires
-    call-requires
-    moved-requires
-    kept-requires
-    enum-known-next
-    enum-told
-    returns
-    returns-2)
+    (tie.spec state-requires call-requires moved-requires kept-requires told-requires returns)
