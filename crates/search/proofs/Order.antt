@@ -14,7 +14,7 @@ use Rattle.laws.proofs.Choices.{yes-is, no-is, and-both, and-of, or-either, or-
 use Rattle.meaning.specs.Digits.{inSet, largest, nonzero}
 use Rattle.forms.proofs.Strings.{nonzero-one}
 use Rattle.width.specs.Widths.{Lawful}
-use Rattle.width.proofs.Shifts.{doubled}
+use Rattle.laws.proofs.Shifts.{doubled}
 use Rattle.search.specs.Least.{digitAt, leftOver}
 
 -- ---- a set's digits
