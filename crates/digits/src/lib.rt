@@ -24,7 +24,6 @@ pub enum Found {
 
 // ---- all digits
 // The loops of this part run to the string's end whatever they meet, and what they do at a digit is no branch: so a machine takes many digits at a time.
-
 // Both of two answers. Each is known before, so there is nothing to leave out.
 pub fn both(a: bool, b: bool) -> bool
     ensures { λ r. ⌜ r ≡ a && b ⌝ }

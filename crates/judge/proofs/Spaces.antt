@@ -24,31 +24,25 @@ ways {P} {p} {i} h f g = ⊎-elim f g (eq-or-lt-of-le {n = p} {m = i} (omega ari
 
 -- ---- whether two stand too near, at all
 -- no two nonzero digits under place i stand `gap` apart
-pub record Cleared (gap : ℕ) (ds : List ℤ) (i : ℕ) : Type 0 where
-  pub low : gap ≤ i
-  pub none : (p : ℕ) → p + gap < i → Some ds p → Some ds (p + gap) → ⊥
+abbrev pub Cleared : (gap : ℕ) (ds : List ℤ) (i : ℕ) → Type 0
+Cleared gap ds i = (p : ℕ) → p + gap < i → Some ds p → Some ds (p + gap) → ⊥
 
 module _ (gap : ℕ) (ds : List ℤ) where
   -- no pair is passed yet
   pub clear-none : Cleared gap ds gap
-  clear-none = record { low = omega arith; none = λ p l. absurd (omega arith) }
+  clear-none p l = absurd (omega arith)
 
   -- one pair more
   pub clear-more : (i : ℕ) → Cleared gap ds i → (Some ds (i - gap) → Some ds i → ⊥) → Cleared gap ds (i + 1)
-  clear-more i h n =
-      record {
-        low = omega (arith, h .low);
-        none =
-            λ p l s t.
-            ways l (λ (x : p + gap ≡ i). let y : p ≡ i - gap = omega arith in n (subst (Some ds) y s) (subst (Some ds) x t)) (λ (x : p + gap < i). h .none p x s t);
-      }
+  clear-more i h n p l s t =
+      ways l (λ (x : p + gap ≡ i). let y : p ≡ i - gap = omega arith in n (subst (Some ds) y s) (subst (Some ds) x t)) (λ (x : p + gap < i). h p x s t)
 
   -- all pairs
   pub clear-all : (i : ℕ) → Cleared gap ds i → length ds ≤ i → Clear gap ds
   clear-all i h l p s t = go (decLt (p + gap) i)
     where
       go : Dec (p + gap < i) → ⊥
-      go (yes m) = h .none p m s t
+      go (yes m) = h p m s t
       go (no m) = t (List·getD-eq-default ds (pos 0) {n = p + gap} (omega arith))
 
 -- where no two stand fewer than w apart, none stand too near

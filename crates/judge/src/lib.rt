@@ -134,7 +134,7 @@ fn freed(w: usize, free: usize, i: usize, digit: i8) -> usize
     if digit == 0 { free } else { i + w }
 }
 
-// Each nonzero digit is looked at with the last one under it alone: those further down are no nearer.
+// The lowest pair is looked for from place 0 up. Each nonzero digit is looked at with the last one under it alone: those further down are no nearer.
 fn near(w: usize, digits: &[i8]) -> Spaced
     requires { ⌜ w < 256 ⌝ }
     ensures { λ r. ⌜ Spacing w (now (digits .entry)) r ⌝ }
@@ -152,6 +152,7 @@ fn near(w: usize, digits: &[i8]) -> Spaced
     Spaced::Apart
 }
 
+// Of the next three a yes alone is relied on: after a no the pair is looked for.
 // Whether one of two digits is 0.
 fn parted(lower: i8, upper: i8) -> bool
     ensures { λ r. ⌜ (r ≡ true → lower ≢ pos 0 → upper ≢ pos 0 → ⊥) ⌝ }
@@ -187,7 +188,7 @@ fn apart(w: usize, digits: &[i8]) -> bool
     true
 }
 
-// Only in a string with such a pair it is looked for.
+// A string whose digits stand apart, as most do, is told by its gaps alone.
 fn spacing(w: usize, digits: &[i8]) -> Spaced
     requires { ⌜ w < 256 ⌝ }
     ensures { λ r. ⌜ Spacing w (now (digits .entry)) r ⌝ }

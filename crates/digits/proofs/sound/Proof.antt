@@ -42,9 +42,12 @@ loop-again c =
     let h = c .before in
     let a = h .before .before .before .before .args in
     let l = h .before .before .before .loop in
-    let m = largest (a .width .bits) in
-    let d = toZ-ofZ {w = w8} (record { sfits = h .before .holds-arg .given }) in
-    (omega arith, c .both .ensures ∙ ap (λ b. b && h .holds .result) (l .inv .1) ∙ ap (λ b. allIn m (take (l .i) (a .digits .now)) && b) (h .holds .ensures ∙ ap (inSet m) d) ∙ sym (all-next m (a .digits .now) (l .i) (omega arith)))
+    let m = largest (a .width .bits) in (
+      omega arith,
+      c .both .ensures ∙ ap (λ b. b && h .holds .result) (l .inv .1)
+          ∙ ap (λ b. allIn m (take (l .i) (a .digits .now)) && b) (h .holds .ensures ∙ ap (inSet m) (toZ-ofZ {w = w8} (record { sfits = h .before .holds-arg .given })))
+          ∙ sym (all-next m (a .digits .now) (l .i) (omega arith)),
+    )
 
 returns : tie.Need-returns Inv-loop μ-loop
 returns c = let a = c .before .before .args in c .before .loop .inv .1 ∙ ap (allIn (largest (a .width .bits))) (take-all (c .before .loop .i) (a .digits .now) (omega arith))
