@@ -1,5 +1,6 @@
 // The reader: wMOF of a lent scalar one digit a call, places n down to 0, then done at every later call. `step` does the work on a plain slice and
-// numbers, and a reader's own functions only take it apart. Whoever calls `read_at`, or `start`, `call` and `moved`, needs no walk by hand.
+// numbers, and a reader's own functions only take it apart. A caller of `read_at`, of `start`, `call` and `moved`, or of `new_state` and `next_of`, which go
+// through a reader, needs no walk by hand.
 ghost use mathlib.Core.Path.{_≡_};
 ghost use Prim.Native.Nat.{_-_, _≤_, _<_, min};
 ghost use Rattle.meaning.specs.Scalars.{number};
@@ -237,5 +238,43 @@ impl<'a> Reader<'a> {
         self.spot = taken.spot;
         self.floor = taken.floor;
         taken.next
+    }
+}
+
+// `Reader::new` and `Reader::next` for a caller whose locals hold no reference: the reader stands in a local here, and its state goes in and out.
+pub fn new_state(width: u8, scalar: &[u8]) -> State
+    ensures { λ r. ⌜ After width (now (scalar .entry)) 0 r ⌝ }
+{
+    let reader = Reader::new(width, scalar);
+    State {
+        place: reader.place,
+        width: reader.width,
+        pending: reader.pending,
+        spot: reader.spot,
+        floor: reader.floor,
+        refusal: reader.refusal,
+    }
+}
+
+// The call on a reader over the scalar that is at this state.
+pub fn next_of(scalar: &[u8], state: State) -> Taken
+    ensures { λ r. ⌜ r ≡ call (now (scalar .entry)) state ⌝ }
+{
+    let mut reader = Reader {
+        scalar,
+        place: state.place,
+        width: state.width,
+        pending: state.pending,
+        spot: state.spot,
+        floor: state.floor,
+        refusal: state.refusal,
+    };
+    let next = reader.next();
+    Taken {
+        next,
+        place: reader.place,
+        pending: reader.pending,
+        spot: reader.spot,
+        floor: reader.floor,
     }
 }

@@ -23,16 +23,16 @@ fn put_next(next: Next, at: usize, out: &mut [u8]) -> usize
     }
 }
 
-// The calls, and their answers.
+// A reader is made and called, and its answers are written.
 fn made(width: u8, scalar: &[u8], calls: usize, out: &mut [u8]) -> usize
     requires { ⌜ 2 + 4 * calls ≤ length (now out) ⌝ }
     ensures { λ r. ⌜ r ≡ 2 + 4 * calls ⌝ }
 {
-    let mut state = reader::start(width, scalar);
+    let mut state = reader::new_state(width, scalar);
     let mut at = print::number(state.refusal as u64, 1, 0, out);
     let mut k = 0;
     while k < calls {
-        let taken = reader::call(scalar, state);
+        let taken = reader::next_of(scalar, state);
         state = reader::moved(state, taken);
         let next = taken.next;
         at = put_next(next, at, out);

@@ -12,8 +12,8 @@ Inv-loop width scalar calls out₀ state₀ at₀ k₀ out state at k = (k ≤ c
 abbrev μ-loop : tie.MeasureT-loop
 μ-loop width scalar calls out₀ state₀ at₀ k₀ out state at k = calls - k
 
-start-requires : tie.Need-start-requires Inv-loop μ-loop
-start-requires c κs = search needs
+new-state-requires : tie.Need-new-state-requires Inv-loop μ-loop
+new-state-requires c κs = search needs
 
 cast-number : tie.Need-cast-number Inv-loop μ-loop
 cast-number c = search needs
@@ -24,8 +24,8 @@ number-requires c κs = search needs
 loop-holds : tie.Need-loop-holds Inv-loop μ-loop
 loop-holds c = search needs
 
-call-requires : tie.Need-call-requires Inv-loop μ-loop
-call-requires c κs = search needs
+next-of-requires : tie.Need-next-of-requires Inv-loop μ-loop
+next-of-requires c κs = search needs
 
 moved-requires : tie.Need-moved-requires Inv-loop μ-loop
 moved-requires c κs = search needs
@@ -54,11 +54,11 @@ made-spec =
     (tie.spec
     Inv-loop
     μ-loop
-    start-requires
+    new-state-requires
     cast-number
     number-requires
     loop-holds
-    call-requires
+    next-of-requires
     moved-requires
     put-next-requires
     add-k
