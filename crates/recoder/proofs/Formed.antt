@@ -1,7 +1,10 @@
 -- A string has a form by the form's number. Assumes nothing.
 use mathlib.Core.Path.{_≡_}
+use mathlib.Core.Logic.{_≢_}
 use mathlib.Core.List.{List}
 use Prim.Native.Nat.{ℕ, _+_, _^_, _<_, _≤_}
+use native.Mathlib.Omega.{arith}
+use native.Mathlib.Decide.{ℕ-discrete}
 use lib.IntN.{ℤ}
 use Rattle.meaning.specs.Mof.{mof}
 use Rattle.meaning.specs.Wmof.{wmof}
@@ -11,6 +14,7 @@ use Rattle.forms.specs.Wnaf.{wnafFrom}
 use Rattle.forms.specs.Closest.{closestOf}
 use Rattle.forms.proofs.Wnaf.{wnaf-is}
 use Rattle.forms.proofs.Ties.{closest-is}
+use Rattle.recoder.specs.Sweeps.{Turned}
 
 module _ (f w N n : ℕ) (ds : List ℤ) where
   pub is-mof : f ≡ 1 → ds ≡ mof N n → Form f w N n ds
@@ -29,3 +33,11 @@ module _ (f w N n : ℕ) (ds : List ℤ) where
     pub is-closest : f ≡ 4 → ds ≡ closestOf larger w N n → Form f w N n ds
     unfolding Form
     is-closest e d = rw (e, d) (closest-is larger w N n two small)
+
+    -- by the leading bit at which a tie turns
+    pub is-turned : (b : ℕ) → f ≢ 1 → f ≢ 2 → 1 ≤ f → f ≤ 4 → (f ≡ 3 → b ≡ 2) → (f ≡ 4 → b ≡ 1) → Turned b w N n ds → Form f w N n ds
+    is-turned b one other least most third fourth t = go (ℕ-discrete f 3)
+      where
+        go : Dec (f ≡ 3) → Form f w N n ds
+        go (yes e) = is-wmof e (t .never (third e))
+        go (no m) = let e : f ≡ 4 = omega arith in is-closest e (t .at-one (fourth e))

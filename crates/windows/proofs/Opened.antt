@@ -68,7 +68,7 @@ module _ (w N i s : ℕ) (two : 2 ≤ w) (seen : s ≡ windowBits w N i) where
   leads = ap (λ x. x / 2 ^ w) seen ∙ opened-leading w N i
 
   -- and the bit under it comes second
-  follows : second w s ≡ below N i
+  pub follows : second w s ≡ below N i
   follows = ap (λ x. x / 2 ^ (w - 1) % 2) seen ∙ opened-second w N i two
 
   -- so whether the window opens tells whether they are different

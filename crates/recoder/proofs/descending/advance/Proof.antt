@@ -1,0 +1,206 @@
+-- `recoder::descending::advance` meets its contract. The invariant: the windows over the places left are written, and `opens` tells where others open. Assumes nothing.
+use mathlib.Core.Path.{_≡_, sym, ap, _∙_}
+use mathlib.Core.Logic.{_≢_}
+use Prim.Native.Nat.{ℕ, suc, _+_, _*_, _-_, _/_, _%_, _^_, _<_, _≤_}
+use native.Mathlib.Omega.{arith}
+use borrow.Author.Needs.{needs, sfits-of}
+use lib.ListN.{length, set}
+use denote.Ref.{now}
+use mir.Syntax.{w8}
+use mir.Facts.{toZ-ofZ}
+use Rattle.meaning.specs.Scalars.{number, bit, below}
+use Rattle.meaning.specs.Recoding.{marksOf}
+use Rattle.meaning.specs.Windows.{windowBits, twos, oddPart}
+use Rattle.meaning.specs.Wmof.{windowAt}
+use Rattle.forms.proofs.DigitSets.{digit-some}
+use Rattle.windows.specs.Parts.{Parts}
+use Rattle.windows.proofs.Opened.{opened, opened-lt, opened-at, worked, Puts, puts}
+use Rattle.recoder.proofs.Marking.{marks-length}
+use Rattle.recoder.proofs.Sweeping.{swept-none, Down, down-some, down-end, down-under, down-seen, down-opens, down-put}
+use Rattle.recoder.proofs.descending.advance.Statement.{statement}
+use Rattle.recoder.proofs.descending.advance.Tie as tie
+
+abbrev Inv-loop : tie.InvT-loop
+Inv-loop w s from floor digits₀ marks₀ lowest x opens₀ left₀ digits marks opens left =
+    Down (w .bits) (number s) lowest x floor from digits₀ opens left digits × (marks ≡ marksOf digits)
+
+abbrev μ-loop : tie.MeasureT-loop
+μ-loop w s from floor digits₀ marks₀ lowest x opens₀ left₀ digits marks opens left = left
+
+-- what the function was called with, and what it found before the loop
+abbrev start : tie.At-loop Inv-loop μ-loop → tie.Start Inv-loop μ-loop
+start l = l .before .before .before .before .before .before .before
+
+abbrev lowest : tie.At-loop Inv-loop μ-loop → ℕ
+lowest l = l .before .before .before .before .lowest-place .result
+
+abbrev x : tie.At-loop Inv-loop μ-loop → ℕ
+x l = l .before .before .stretch-under .result
+
+two : (l : tie.At-loop Inv-loop μ-loop) → 2 ≤ start l .args .w .bits
+two l = start l .pre .0 .0
+
+same : (l : tie.At-loop Inv-loop μ-loop)
+    → let a = start l .args in
+    x l % 2 ^ 56 ≡ number (now (a .s)) * 2 ^ a .w .bits / 2 ^ lowest l % 2 ^ 56
+same l =
+    let a = start l .args in
+    l .before .before .stretch-under .ensures ∙ ap (λ w. number (now (a .s)) * 2 ^ w / 2 ^ lowest l % 2 ^ 56) (l .before .before .before .bits .ensures)
+
+bounds : (l : tie.At-loop Inv-loop μ-loop) → (start l .args .floor ≤ lowest l) × (lowest l < start l .args .from) × (start l .args .from + start l .args .w .bits ≤ lowest l + 56)
+bounds l = l .before .before .before .before .lowest-place .ensures
+
+-- the places are few
+few : (l : tie.At-loop Inv-loop μ-loop) → l .loop .left ≤ 529
+few l = omega (arith, l .loop .inv .0 .swept .fewer, start l .pre .1 .0)
+
+-- ---- a turn
+abbrev turn : tie.After-window Inv-loop μ-loop → tie.At-loop Inv-loop μ-loop
+turn c = c .before .before .before
+
+-- the place where the window opens
+abbrev at : tie.After-window Inv-loop μ-loop → ℕ
+at c = lowest (turn c) + c .before .highest .result
+
+under : (c : tie.After-window Inv-loop μ-loop) → at c < turn c .loop .left
+under c = let l = turn c in down-under (two l) (same l) (bounds l) (l .loop .inv .0) (c .before .highest .result) (c .before .highest .ensures)
+
+-- the window
+seen : (c : tie.After-window Inv-loop μ-loop) → let a = start (turn c) .args in c .window .result ≡ windowBits (a .w .bits) (number (now (a .s))) (at c)
+seen c =
+    let l = turn c in
+    c .window .ensures ∙ down-seen (two l) (same l) (bounds l) (l .loop .inv .0) (c .before .highest .result) (c .before .highest .ensures)
+
+differ : (c : tie.After-window Inv-loop μ-loop) → let N = number (now (start (turn c) .args .s)) in bit N (at c) ≢ below N (at c)
+differ c = let l = turn c in down-opens (two l) (same l) (bounds l) (l .loop .inv .0) (c .before .highest .result) (c .before .highest .ensures)
+
+-- is worked out
+found : (c : tie.After-work-out Inv-loop μ-loop)
+    → let o = c .before in
+    let a = start (turn o) .args in
+    let v = windowAt (a .w .bits) (number (now (a .s))) (at o) in
+    Parts (a .w .bits) (oddPart (a .w .bits) v) (twos (a .w .bits) v) (c .work-out .result)
+found c =
+    let o = c .before in
+    let a = start (turn o) .args in
+    worked (a .w .bits) (number (now (a .s))) (at o) (o .window .result) (two (turn o)) (seen o) (c .work-out .ensures)
+
+-- its digit
+digit : (c : tie.After-placed Inv-loop μ-loop)
+    → let o = c .before .before in
+    let a = start (turn o) .args in
+    Puts (a .w .bits) (at o) (windowAt (a .w .bits) (number (now (a .s))) (at o)) (c .placed .result)
+digit c =
+    let o = c .before .before in
+    let a = start (turn o) .args in
+    puts (at o) (windowAt (a .w .bits) (number (now (a .s))) (at o)) (omega arith) (found (c .before)) (c .placed .ensures)
+
+-- is put
+stored : (c : tie.After-put Inv-loop μ-loop)
+    → let p = c .before .before .before .before in
+    let d = turn (p .before .before) .loop .digits in
+    c .put .last .0 ≡ set d (p .placed .result .spot) (p .placed .result .unit)
+stored c =
+    let p = c .before .before .before .before in
+    let r = p .placed .result in
+    c .put .ensures .0 ∙ ap (set (turn (p .before .before) .loop .digits) (r .spot)) (toZ-ofZ {w = w8} {z = r .unit} (sfits-of (c .before .struct-told .given .1 .0 .1)))
+
+lowest-place-requires : tie.Need-lowest-place-requires Inv-loop μ-loop
+lowest-place-requires c κs = search needs
+
+bits-requires : tie.Need-bits-requires Inv-loop μ-loop
+bits-requires c κs = search needs
+
+stretch-under-requires : tie.Need-stretch-under-requires Inv-loop μ-loop
+stretch-under-requires c κs = search needs
+
+sub-opening : tie.Need-sub-opening Inv-loop μ-loop
+sub-opening c = search needs
+
+opening-requires : tie.Need-opening-requires Inv-loop μ-loop
+opening-requires c κs = search needs
+
+loop-holds : tie.Need-loop-holds Inv-loop μ-loop
+loop-holds c =
+    let p = c .before .before .before .before .before .before .pre in
+    (record { swept = swept-none (p .1 .1 .1); opens-are = c .opening .ensures }, p .1 .1 .0)
+
+highest-requires : tie.Need-highest-requires Inv-loop μ-loop
+highest-requires c κs = let l = c .before in (start l .pre .0, down-some (two l) (same l) (bounds l) (l .loop .inv .0) (c .loop-test .taken))
+
+window-requires : tie.Need-window-requires Inv-loop μ-loop
+window-requires c κs = (start (c .before .before) .pre .0, c .highest .ensures .few)
+
+work-out-requires : tie.Need-work-out-requires Inv-loop μ-loop
+work-out-requires c κs =
+    let l = turn c in
+    let w = start l .args .w .bits in
+    let N = number (now (start l .args .s)) in
+    (start l .pre .0, (rw (seen c) (opened-lt w N (at c)), (rw (seen c) (opened w N (at c) (two l) (differ c)), omega arith)))
+
+cast-placed : tie.Need-cast-placed Inv-loop μ-loop
+cast-placed c = record { fits = omega (arith, c .before .before .highest .ensures .few) }
+
+add-placed : tie.Need-add-placed Inv-loop μ-loop
+add-placed c = record { fits = omega (arith, under (c .before), few (turn (c .before))) }
+
+add-placed-2 : tie.Need-add-placed-2 Inv-loop μ-loop
+add-placed-2 c = record { fits = omega (arith, under (c .before), few (turn (c .before))) }
+
+placed-requires : tie.Need-placed-requires Inv-loop μ-loop
+placed-requires c κs =
+    let o = c .before in
+    let l = turn o in
+    let f = found c in
+    (start l .pre .0, omega (arith, under o, few l, f .twos-is, f .few, opened-at (start l .args .w .bits) (number (now (start l .args .s))) (at o) (two l) (differ o) .over))
+
+put-requires : tie.Need-put-requires Inv-loop μ-loop
+put-requires c κs =
+    let p = c .before .before .before in
+    let o = p .before .before in
+    let l = turn o in
+    let g = l .loop .inv .0 .swept in
+    let r = p .placed .result in
+    let t = opened-at (start l .args .w .bits) (number (now (start l .args .s))) (at o) (two l) (differ o) in
+    let spot : r .spot < l .loop .left = omega (arith, digit p .spot-is, t .under, under o) in
+    let unit = toZ-ofZ {w = w8} {z = r .unit} (sfits-of (c .struct-told .given .1 .0 .1)) ∙ digit p .unit-is in
+    let m = start l .pre .1 .0 in
+    (omega (arith, spot, g .fewer, g .same-length, m), (omega (arith, g .same-length, m), (l .loop .inv .1, (g .clear (r .spot) spot, λ e. digit-some (t .digit) (sym unit ∙ e)))))
+
+below-requires : tie.Need-below-requires Inv-loop μ-loop
+below-requires c κs = c .before .before .before .before .before .before .before .before .before .before .highest .ensures .few
+
+loop-less : tie.Need-loop-less Inv-loop μ-loop
+loop-less c =
+    let p = c .before .before .before .before .before .before .before .before in
+    omega (arith, digit p .left-is, two (turn (p .before .before)), under (p .before .before))
+
+loop-again : tie.Need-loop-again Inv-loop μ-loop
+loop-again c =
+    let k = c .before .before .before .before in
+    let p = k .before .before .before .before in
+    let o = p .before .before in
+    let l = turn o in
+    (down-put (two l) (same l) (bounds l) (l .loop .inv .0) (o .before .highest .result) (o .before .highest .ensures) (p .placed .result) (digit p) (stored k) (c .below .ensures), k .put .ensures .1)
+
+smaller-requires : tie.Need-smaller-requires Inv-loop μ-loop
+smaller-requires c κs = search needs
+
+same-length : tie.Need-same-length Inv-loop μ-loop
+same-length c = c .before .before .loop .inv .0 .swept .same-length
+
+same-length-2 : tie.Need-same-length-2 Inv-loop μ-loop
+same-length-2 c =
+    let l = c .before .before in
+    ap length (l .loop .inv .1) ∙ marks-length (l .loop .digits) ∙ sym (ap length (start l .pre .1 .1 .0) ∙ marks-length (now (start l .args .digits)))
+
+returns : tie.Need-returns Inv-loop μ-loop
+returns c =
+    let l = c .before .before in
+    let (less, swept) = down-end (two l) (same l) (bounds l) (l .loop .inv .0) (c .before .loop-test .left) (c .smaller .ensures .0) (c .smaller .ensures .1) in
+    (less, (swept, l .loop .inv .1))
+
+pub advance-spec : {M : Type 1} → statement M
+advance-spec =
+    tie.close
+    (tie.spec Inv-loop μ-loop lowest-place-requires bits-requires stretch-under-requires sub-opening opening-requires loop-holds highest-requires window-requires work-out-requires cast-placed add-placed add-placed-2 placed-requires put-requires below-requires loop-less loop-again smaller-requires same-length same-length-2 returns)

@@ -1,0 +1,59 @@
+-- Windows written from the top place down, with m places left and then m′: what stands in the buffer, and what it comes to. Assumes nothing.
+use mathlib.Core.Path.{_≡_}
+use mathlib.Core.Logic.{_≢_}
+use mathlib.Core.Bool.{Bool, true, false}
+use mathlib.Core.List.{List}
+use Prim.Native.Nat.{ℕ, _+_, _*_, _-_, _/_, _%_, _^_, _<_, _≤_}
+use lib.Bits.{bitXor}
+use lib.IntN.{ℤ, pos}
+use lib.ListN.{length, getD}
+use Rattle.meaning.specs.Scalars.{bit, below}
+use Rattle.meaning.specs.Windows.{leading, second}
+use Rattle.meaning.specs.Wmof.{wmof}
+use Rattle.meaning.specs.Closest.{larger, smaller}
+use Rattle.forms.specs.Closest.{closestOf}
+use Rattle.forms.proofs.Loops.{from}
+
+-- the places that are left hold zeros
+abbrev pub Clear : ℕ → List ℤ → Type 0
+Clear m ds = (j : ℕ) → j < m → getD ds j (pos 0) ≡ pos 0
+
+-- no window that opens from place `floor` up, with m places left, turns: it opens w places above place t and leads with b
+abbrev pub Untied : (b w N t floor m : ℕ) → Type 0
+Untied b w N t floor m = (i : ℕ) → floor ≤ i → i < m → i ≡ w + t → bit N i ≢ below N i → bit N i ≢ b
+
+-- the windows that open from place `floor` up are written: where none of them turns, the buffer comes to the same string
+pub record Swept (w N floor m : ℕ) (ds : List ℤ) (m′ : ℕ) (ds′ : List ℤ) : Type 0 where
+  pub same-length : length ds′ ≡ length ds
+  pub fewer : m′ ≤ m
+  pub clear : Clear m′ ds′
+  pub comes : (b t : ℕ) → Untied b w N t floor m → from b w N t m ds ≡ from b w N t m′ ds′
+
+-- whether window s opens and leads with b
+pub record Turns (w s b : ℕ) (r : Bool) : Type 0 where
+  pub yes : r ≡ true → (leading w s ≢ second w s) × (leading w s ≡ b)
+  pub no : r ≡ false → leading w s ≢ second w s → leading w s ≢ b
+
+-- the window that may turn is written if it does: the buffer comes to the same string, and no window turns any more
+pub record Settled (b w N t m : ℕ) (ds : List ℤ) (m′ : ℕ) (ds′ : List ℤ) : Type 0 where
+  pub same-length : length ds′ ≡ length ds
+  pub fewer : m′ ≤ m
+  pub clear : Clear m′ ds′
+  pub comes : from b w N t m ds ≡ from b w N t m′ ds′
+  pub untied : Untied b w N t 0 m′
+
+-- the bits of the first `count` places of stretch x that differ from the bit under them. The lowest place has w bits under it
+abbrev pub openings : (w x count : ℕ) → ℕ
+openings w x count = (bitXor x (x / 2) / 2 ^ (w - 1) % 2 ^ count) * 2 ^ (w - 1)
+
+-- place r is the highest of them
+pub record Highest (w opens r : ℕ) : Type 0 where
+  pub set : 2 ^ (r + (w - 1)) ≤ opens
+  pub over : opens < 2 ^ (r + w)
+  pub few : r < 64
+
+-- the string by the leading bit at which a tie turns: with 2 none does
+pub record Turned (turn w N n : ℕ) (ds : List ℤ) : Type 0 where
+  pub never : turn ≡ 2 → ds ≡ wmof w N n
+  pub at-one : turn ≡ 1 → ds ≡ closestOf larger w N n
+  pub at-zero : turn ≡ 0 → ds ≡ closestOf smaller w N n
