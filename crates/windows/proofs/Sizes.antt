@@ -1,7 +1,7 @@
 -- What a window is worth, less 0 or 1, as a size and a sign: the size is not 0 and at most 2 ^ (w - 1), so u is a digit and k is below w. Assumes nothing.
 use mathlib.Core.Path.{_≡_, sym, ap, _∙_}
 use mathlib.Core.Logic.{_≢_}
-use mathlib.Core.Bool.{Bool, true, false}
+use mathlib.Core.Bool.{Bool, true, false, cond}
 use Prim.Native.Nat.{ℕ, _+_, _-_, _*_, _/_, _%_, _^_, _≤_, _<_}
 use native.Mathlib.Decide.{decLe}
 use native.Mathlib.Nat.{pow-succ'}
@@ -12,7 +12,10 @@ use lib.Pow.{pow-mono}
 use Rattle.laws.proofs.Integers.{diffs, ring, minus}
 use Rattle.laws.proofs.Powers.{pow-pred}
 use Rattle.meaning.specs.Windows.{leading, second, windowWorth}
-use Rattle.windows.specs.Parts.{signed}
+
+-- the number of a size and a sign
+abbrev pub signed : Bool → ℕ → ℤ
+signed minus n = cond minus (negℤ (pos n)) (pos n)
 
 -- ---- the two leading bits
 -- a window has one bit more than the width
