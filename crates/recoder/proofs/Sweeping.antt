@@ -105,20 +105,18 @@ turned b w N n t ds two small low e =
     let g : (c : ℕ) → b ≡ c → ds ≡ from c w N (trailingZeros n N) (n + 1) (replicate (n + 1) (pos 0)) = λ c k. sym f ∙ ap (λ x. from x w N (trailingZeros n N) (n + 1) (replicate (n + 1) (pos 0))) k in
     record { never = λ k. g 2 k ∙ from-wmof w N n two small; at-one = λ k. g 1 k ∙ from-closest w N n two small larger; at-zero = λ k. g 0 k ∙ from-closest w N n two small smaller }
 
--- ---- the highest set bit of a number that has w - 1 bits or more
-pub highest-is : (w opens z : ℕ) → opens < 2 ^ 64 → 2 ^ (w - 1) ≤ opens → z ≡ leadingZeros 64 opens → 0 < w
-    → (z ≤ 63) × (w - 1 ≤ 63 - z) × Highest w opens (63 - z - (w - 1))
-highest-is w opens z fits some e one =
-    let (j, l, lo, hi) = leading-top 64 opens (omega (arith, pow-pos (w - 1))) fits in
-    let at : 63 - z ≡ j = omega arith in
-    let enough : w - 1 ≤ j = go j hi (decLe (w - 1) j) in
-    let k : 63 - z - (w - 1) + (w - 1) ≡ j = omega arith in
-    let k′ : 63 - z - (w - 1) + w ≡ suc j = omega arith in
+-- ---- the highest set bit of a number that has more than `tail` bits
+pub highest-is : (tail opens z : ℕ) → opens < 2 ^ 64 → 2 ^ tail ≤ opens → z ≡ leadingZeros 64 opens → (z ≤ 63) × (tail ≤ 63 - z) × Highest tail opens (63 - z - tail)
+highest-is tail opens z fits some e =
+    let (j, l, lo, hi) = leading-top 64 opens (omega (arith, pow-pos tail)) fits in
+    let enough : tail ≤ j = go j hi (decLe tail j) in
+    let k : 63 - z - tail + tail ≡ j = omega arith in
+    let k′ : 63 - z - tail + 1 + tail ≡ suc j = omega arith in
     (omega arith, omega arith, record { set = rw k lo; over = rw k′ hi; few = omega arith })
   where
-    go : (j : ℕ) → opens < 2 ^ suc j → Dec (w - 1 ≤ j) → w - 1 ≤ j
+    go : (j : ℕ) → opens < 2 ^ suc j → Dec (tail ≤ j) → tail ≤ j
     go j hi (yes h) = h
-    go j hi (no h) = absurd (omega (arith, pow-mono {i = suc j} {j = w - 1} (omega arith)))
+    go j hi (no h) = absurd (omega (arith, pow-mono {i = suc j} {j = tail} (omega arith)))
 
 -- ---- nothing is written yet
 pub swept-none : {w N floor m : ℕ} {ds : List ℤ} → Clear m ds → Swept w N floor m ds m ds
@@ -245,13 +243,13 @@ module _ (w N lowest x : ℕ) (two : 2 ≤ w) (same : x % 2 ^ 56 ≡ N * 2 ^ w /
     told-low q h = low-bit D u q h ∙ told q (omega arith)
 
     -- no window opens
-    pub none-open : openings w x u ≡ 0 → (q : ℕ) → q < u → bit N (lowest + q) ≡ below N (lowest + q)
+    pub none-open : openings (w - 1) x u ≡ 0 → (q : ℕ) → q < u → bit N (lowest + q) ≡ below N (lowest + q)
     none-open e q h =
         let z : A ≡ 0 = sym (shl-shr A (w - 1)) ∙ ap (λ t. t / 2 ^ (w - 1)) e ∙ zero-shr (w - 1) in
         sym (same-bits _ _ (sym (told-low q h) ∙ ap (λ t. t / 2 ^ q % 2) z ∙ ap (λ t. t % 2) (zero-shr q)))
 
     -- or one does, so there are so many bits
-    pub some-open : openings w x u ≢ 0 → 2 ^ (w - 1) ≤ openings w x u
+    pub some-open : openings (w - 1) x u ≢ 0 → 2 ^ (w - 1) ≤ openings (w - 1) x u
     some-open n = go A n
       where
         go : (a : ℕ) → a * 2 ^ (w - 1) ≢ 0 → 2 ^ (w - 1) ≤ a * 2 ^ (w - 1)
@@ -259,7 +257,7 @@ module _ (w N lowest x : ℕ) (two : 2 ≤ w) (same : x % 2 ^ 56 ≡ N * 2 ^ w /
         go (suc a) f = omega (arith, suc-mul a (2 ^ (w - 1)))
 
     -- the highest opens at place r
-    module _ (r : ℕ) (top : Highest w (openings w x u) r) where
+    module _ (r : ℕ) (top : Highest (w - 1) (openings (w - 1) x u) r) where
       least : 2 ^ r ≤ A
       least =
           let e = ap (λ t. t / 2 ^ (w - 1)) (pow-add 2 r (w - 1)) ∙ shl-shr (2 ^ r) (w - 1) in
@@ -267,8 +265,7 @@ module _ (w N lowest x : ℕ) (two : 2 ≤ w) (same : x % 2 ^ 56 ≡ N * 2 ^ w /
 
       most : A < 2 ^ (r + 1)
       most =
-          let e : r + w ≡ r + 1 + (w - 1) = omega arith in
-          omega (arith, shl-shr A (w - 1), shr-lt (r + 1) (w - 1) (rw e at (top .over)))
+          omega (arith, shl-shr A (w - 1), shr-lt (r + 1) (w - 1) (top .over))
 
       pub inside : r < u
       inside = go (decLt r u)
@@ -295,7 +292,7 @@ module _ (w N lowest x : ℕ) (two : 2 ≤ w) (same : x % 2 ^ 56 ≡ N * 2 ^ w /
           other-bits _ _ (sym (told-low r inside) ∙ omega arith) (sym e)
 
       -- those that are left under its window
-      pub left-open : openings w x u % 2 ^ r ≡ openings w x (r + 1 - w)
+      pub left-open : openings (w - 1) x u % 2 ^ r ≡ openings (w - 1) x (r + 1 - w)
       left-open =
           let e : r - (w - 1) ≡ r + 1 - w = omega arith in
           let f : u ≡ u - (r + 1 - w) + (r + 1 - w) = let i = inside in omega arith in
@@ -305,7 +302,7 @@ module _ (w N lowest x : ℕ) (two : 2 ≤ w) (same : x % 2 ^ 56 ≡ N * 2 ^ w /
 -- ---- what stands at a turn: the windows over the places left are written, and the places under them where one opens are told
 pub record Down (w N lowest x floor m : ℕ) (ds : List ℤ) (opens left : ℕ) (d : List ℤ) : Type 0 where
   pub swept : Swept w N floor m ds left d
-  pub opens-are : opens ≡ openings w x (left - lowest)
+  pub opens-are : opens ≡ openings (w - 1) x (left - lowest)
 
 module _ {w N lowest x floor m opens left : ℕ} {ds d : List ℤ} (two : 2 ≤ w) (same : x % 2 ^ 56 ≡ N * 2 ^ w / 2 ^ lowest % 2 ^ 56)
     (bounds : (floor ≤ lowest) × (lowest < m) × (m + w ≤ lowest + 56)) (g : Down w N lowest x floor m ds opens left d) where
@@ -331,11 +328,11 @@ module _ {w N lowest x floor m opens left : ℕ} {ds d : List ℤ} (two : 2 ≤ 
           (omega (arith, high k, bounds), rw (high k) (swept-pass two lowest (g .swept) k (λ q l n. rw (at q l) at (all (q - lowest) (omega arith)))))
 
   -- the highest place where one opens
-  module _ (r : ℕ) (top : Highest w opens r) where
+  module _ (r : ℕ) (top : Highest (w - 1) opens r) where
     abbrev i : ℕ
     i = lowest + r
 
-    found : Highest w (openings w x u) r
+    found : Highest (w - 1) (openings (w - 1) x u) r
     found = rw (g .opens-are) at top
 
     pub down-under : i < left
@@ -355,5 +352,5 @@ module _ {w N lowest x floor m opens left : ℕ} {ds d : List ℤ} (two : 2 ≤ 
         let k : r + 1 - w ≡ p .left - lowest = omega (arith, P .left-is) in
         record {
           swept = swept-put two i p passed (omega (arith, bounds)) down-opens P e;
-          opens-are = o ∙ ap (λ t. t % 2 ^ r) (g .opens-are) ∙ left-open w N lowest x two same u room r found ∙ ap (openings w x) k;
+          opens-are = o ∙ ap (λ t. t % 2 ^ r) (g .opens-are) ∙ left-open w N lowest x two same u room r found ∙ ap (openings (w - 1) x) k;
         }

@@ -42,14 +42,14 @@ pub record Settled (b w N t m : ℕ) (ds : List ℤ) (m′ : ℕ) (ds′ : List 
   pub comes : from b w N t m ds ≡ from b w N t m′ ds′
   pub untied : Untied b w N t 0 m′
 
--- the bits of the first `count` places of stretch x that differ from the bit under them. The lowest place has w bits under it
-abbrev pub openings : (w x count : ℕ) → ℕ
-openings w x count = (bitXor x (x / 2) / 2 ^ (w - 1) % 2 ^ count) * 2 ^ (w - 1)
+-- the bits of the first `count` places of stretch x that differ from the bit under them, `tail` places higher up. The lowest place has tail + 1 bits under it
+abbrev pub openings : (tail x count : ℕ) → ℕ
+openings tail x count = (bitXor x (x / 2) / 2 ^ tail % 2 ^ count) * 2 ^ tail
 
 -- place r is the highest of them
-pub record Highest (w opens r : ℕ) : Type 0 where
-  pub set : 2 ^ (r + (w - 1)) ≤ opens
-  pub over : opens < 2 ^ (r + w)
+pub record Highest (tail opens r : ℕ) : Type 0 where
+  pub set : 2 ^ (r + tail) ≤ opens
+  pub over : opens < 2 ^ (r + 1 + tail)
   pub few : r < 64
 
 -- the string by the leading bit at which a tie turns: with 2 none does

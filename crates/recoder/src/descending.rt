@@ -27,23 +27,20 @@ fn lowest_place(w: Width, left: usize, floor: usize) -> usize
     }
 }
 
-// The places among the first `count` of stretch x whose bit differs from the one under it, w - 1 places higher up.
-fn opening(w: Width, x: u64, count: usize) -> u64
-    requires { ⌜ Lawful (w .bits) ⌝ }
-    requires { ⌜ count + w .bits ≤ 56 ⌝ }
-    ensures { λ r. ⌜ r ≡ openings (w .bits) x count ⌝ }
+// The places among the first `count` of stretch x whose bit differs from the one under it, `tail` places higher up: so many a window has under its first.
+fn opening(tail: u32, x: u64, count: usize) -> u64
+    requires { ⌜ count + tail ≤ 56 ⌝ }
+    ensures { λ r. ⌜ r ≡ openings tail x count ⌝ }
 {
-    let tail = w.bits() - 1;
     (((x ^ (x >> 1)) >> tail) % (1u64 << count)) << tail
 }
 
 // The highest of them.
-fn highest(w: Width, opens: u64) -> u32
-    requires { ⌜ Lawful (w .bits) ⌝ }
-    requires { ⌜ 2 ^ (w .bits - 1) ≤ opens ⌝ }
-    ensures { λ r. ⌜ Highest (w .bits) opens r ⌝ }
+fn highest(tail: u32, opens: u64) -> u32
+    requires { ⌜ 2 ^ tail ≤ opens ⌝ }
+    ensures { λ r. ⌜ Highest tail opens r ⌝ }
 {
-    63 - u64::leading_zeros(opens) - (w.bits() - 1)
+    63 - u64::leading_zeros(opens) - tail
 }
 
 // Those that are left under a window that opens at place `at`.
@@ -87,12 +84,15 @@ fn advance(
     ensures { λ r. ⌜ Swept (w .bits) (number (now (s .entry))) floor from (now (digits .entry)) r (now (digits .exit)) ⌝ }
     ensures { λ _. ⌜ now (marks .exit) ≡ marksOf (now (digits .exit)) ⌝ }
 {
+    let width = w.bits();
+    let tail = width - 1;
     let lowest = lowest_place(w, from, floor);
-    let x = scalar::stretch_under(s, lowest, w.bits());
-    let mut opens = opening(w, x, from - lowest);
+    let x = scalar::stretch_under(s, lowest, width);
+    let mut opens = opening(tail, x, from - lowest);
     let mut left = from;
     while opens != 0 {
-        let at = highest(w, opens);
+        let at = highest(tail, opens);
+        opens = below(opens, at);
         let bits = window(w, x, at);
         let place = windows::opening::placed(
             w,
@@ -101,7 +101,6 @@ fn advance(
         );
         places::put(digits, marks, place.spot, place.unit);
         left = place.left;
-        opens = below(opens, at);
     }
     smaller(left, lowest)
 }

@@ -1,5 +1,5 @@
 -- `recoder::descending::advance` meets its contract. The invariant: the windows over the places left are written, and `opens` tells where others open. Assumes nothing.
-use mathlib.Core.Path.{_≡_, sym, ap, _∙_}
+use mathlib.Core.Path.{_≡_, sym, ap, subst, _∙_}
 use mathlib.Core.Logic.{_≢_}
 use Prim.Native.Nat.{ℕ, suc, _+_, _*_, _-_, _/_, _%_, _^_, _<_, _≤_}
 use native.Mathlib.Omega.{arith}
@@ -15,24 +15,31 @@ use Rattle.meaning.specs.Wmof.{windowAt}
 use Rattle.forms.proofs.DigitSets.{digit-some}
 use Rattle.windows.specs.Parts.{Parts}
 use Rattle.windows.proofs.Opened.{opened, opened-lt, opened-at, worked, Puts, puts}
+use Rattle.recoder.specs.Sweeps.{Highest, openings}
 use Rattle.recoder.proofs.Marking.{marks-length}
 use Rattle.recoder.proofs.Sweeping.{swept-none, Down, down-some, down-end, down-under, down-seen, down-opens, down-put}
 use Rattle.recoder.proofs.descending.advance.Statement.{statement}
 use Rattle.recoder.proofs.descending.advance.Tie as tie
 
 abbrev Inv-loop : tie.InvT-loop
-Inv-loop w s from floor digits₀ marks₀ lowest x opens₀ left₀ digits marks opens left =
+Inv-loop w s from floor digits₀ marks₀ width tail lowest x opens₀ left₀ digits marks opens left =
     Down (w .bits) (number s) lowest x floor from digits₀ opens left digits × (marks ≡ marksOf digits)
 
 abbrev μ-loop : tie.MeasureT-loop
-μ-loop w s from floor digits₀ marks₀ lowest x opens₀ left₀ digits marks opens left = left
+μ-loop w s from floor digits₀ marks₀ width tail lowest x opens₀ left₀ digits marks opens left = left
 
 -- what the function was called with, and what it found before the loop
 abbrev start : tie.At-loop Inv-loop μ-loop → tie.Start Inv-loop μ-loop
 start l = l .before .before .before .before .before .before .before
 
+abbrev width : tie.At-loop Inv-loop μ-loop → ℕ
+width l = l .before .before .before .before .bits .result
+
+width-is : (l : tie.At-loop Inv-loop μ-loop) → width l ≡ start l .args .w .bits
+width-is l = l .before .before .before .before .bits .ensures
+
 abbrev lowest : tie.At-loop Inv-loop μ-loop → ℕ
-lowest l = l .before .before .before .before .lowest-place .result
+lowest l = l .before .before .before .lowest-place .result
 
 abbrev x : tie.At-loop Inv-loop μ-loop → ℕ
 x l = l .before .before .stretch-under .result
@@ -45,10 +52,10 @@ same : (l : tie.At-loop Inv-loop μ-loop)
     x l % 2 ^ 56 ≡ number (now (a .s)) * 2 ^ a .w .bits / 2 ^ lowest l % 2 ^ 56
 same l =
     let a = start l .args in
-    l .before .before .stretch-under .ensures ∙ ap (λ w. number (now (a .s)) * 2 ^ w / 2 ^ lowest l % 2 ^ 56) (l .before .before .before .bits .ensures)
+    l .before .before .stretch-under .ensures ∙ ap (λ w. number (now (a .s)) * 2 ^ w / 2 ^ lowest l % 2 ^ 56) (width-is l)
 
 bounds : (l : tie.At-loop Inv-loop μ-loop) → (start l .args .floor ≤ lowest l) × (lowest l < start l .args .from) × (start l .args .from + start l .args .w .bits ≤ lowest l + 56)
-bounds l = l .before .before .before .before .lowest-place .ensures
+bounds l = l .before .before .before .lowest-place .ensures
 
 -- the places are few
 few : (l : tie.At-loop Inv-loop μ-loop) → l .loop .left ≤ 529
@@ -56,23 +63,27 @@ few l = omega (arith, l .loop .inv .0 .swept .fewer, start l .pre .1 .0)
 
 -- ---- a turn
 abbrev turn : tie.After-window Inv-loop μ-loop → tie.At-loop Inv-loop μ-loop
-turn c = c .before .before .before
+turn c = c .before .before .before .before
 
--- the place where the window opens
+-- the place where the window opens, in the stretch and in the scalar
+abbrev r : tie.After-window Inv-loop μ-loop → ℕ
+r c = c .before .before .highest .result
+
 abbrev at : tie.After-window Inv-loop μ-loop → ℕ
-at c = lowest (turn c) + c .before .highest .result
+at c = lowest (turn c) + r c
+
+top : (c : tie.After-window Inv-loop μ-loop) → Highest (start (turn c) .args .w .bits - 1) (turn c .loop .opens) (r c)
+top c = subst (λ w. Highest (w - 1) (turn c .loop .opens) (r c)) (width-is (turn c)) (c .before .before .highest .ensures)
 
 under : (c : tie.After-window Inv-loop μ-loop) → at c < turn c .loop .left
-under c = let l = turn c in down-under (two l) (same l) (bounds l) (l .loop .inv .0) (c .before .highest .result) (c .before .highest .ensures)
+under c = let l = turn c in down-under (two l) (same l) (bounds l) (l .loop .inv .0) (r c) (top c)
 
 -- the window
 seen : (c : tie.After-window Inv-loop μ-loop) → let a = start (turn c) .args in c .window .result ≡ windowBits (a .w .bits) (number (now (a .s))) (at c)
-seen c =
-    let l = turn c in
-    c .window .ensures ∙ down-seen (two l) (same l) (bounds l) (l .loop .inv .0) (c .before .highest .result) (c .before .highest .ensures)
+seen c = let l = turn c in c .window .ensures ∙ down-seen (two l) (same l) (bounds l) (l .loop .inv .0) (r c) (top c)
 
 differ : (c : tie.After-window Inv-loop μ-loop) → let N = number (now (start (turn c) .args .s)) in bit N (at c) ≢ below N (at c)
-differ c = let l = turn c in down-opens (two l) (same l) (bounds l) (l .loop .inv .0) (c .before .highest .result) (c .before .highest .ensures)
+differ c = let l = turn c in down-opens (two l) (same l) (bounds l) (l .loop .inv .0) (r c) (top c)
 
 -- is worked out
 found : (c : tie.After-work-out Inv-loop μ-loop)
@@ -105,11 +116,14 @@ stored c =
     let r = p .placed .result in
     c .put .ensures .0 ∙ ap (set (turn (p .before .before) .loop .digits) (r .spot)) (toZ-ofZ {w = w8} {z = r .unit} (sfits-of (c .before .struct-told .given .1 .0 .1)))
 
-lowest-place-requires : tie.Need-lowest-place-requires Inv-loop μ-loop
-lowest-place-requires c κs = search needs
-
 bits-requires : tie.Need-bits-requires Inv-loop μ-loop
 bits-requires c κs = search needs
+
+sub-tail : tie.Need-sub-tail Inv-loop μ-loop
+sub-tail c = search needs
+
+lowest-place-requires : tie.Need-lowest-place-requires Inv-loop μ-loop
+lowest-place-requires c κs = search needs
 
 stretch-under-requires : tie.Need-stretch-under-requires Inv-loop μ-loop
 stretch-under-requires c κs = search needs
@@ -123,13 +137,18 @@ opening-requires c κs = search needs
 loop-holds : tie.Need-loop-holds Inv-loop μ-loop
 loop-holds c =
     let p = c .before .before .before .before .before .before .pre in
-    (record { swept = swept-none (p .1 .1 .1); opens-are = c .opening .ensures }, p .1 .1 .0)
+    (record { swept = swept-none (p .1 .1 .1); opens-are = c .opening .ensures ∙ ap (λ w. openings (w - 1) (c .before .stretch-under .result) (c .before .before .before .before .before .before .args .from - c .before .before .lowest-place .result)) (c .before .before .before .bits .ensures) }, p .1 .1 .0)
 
 highest-requires : tie.Need-highest-requires Inv-loop μ-loop
-highest-requires c κs = let l = c .before in (start l .pre .0, down-some (two l) (same l) (bounds l) (l .loop .inv .0) (c .loop-test .taken))
+highest-requires c κs =
+    let l = c .before in
+    rw (width-is l) (down-some (two l) (same l) (bounds l) (l .loop .inv .0) (c .loop-test .taken))
+
+below-requires : tie.Need-below-requires Inv-loop μ-loop
+below-requires c κs = c .highest .ensures .few
 
 window-requires : tie.Need-window-requires Inv-loop μ-loop
-window-requires c κs = (start (c .before .before) .pre .0, c .highest .ensures .few)
+window-requires c κs = (start (c .before .before .before) .pre .0, c .before .highest .ensures .few)
 
 work-out-requires : tie.Need-work-out-requires Inv-loop μ-loop
 work-out-requires c κs =
@@ -139,7 +158,7 @@ work-out-requires c κs =
     (start l .pre .0, (rw (seen c) (opened-lt w N (at c)), (rw (seen c) (opened w N (at c) (two l) (differ c)), omega arith)))
 
 cast-placed : tie.Need-cast-placed Inv-loop μ-loop
-cast-placed c = record { fits = omega (arith, c .before .before .highest .ensures .few) }
+cast-placed c = record { fits = omega (arith, top (c .before) .few) }
 
 add-placed : tie.Need-add-placed Inv-loop μ-loop
 add-placed c = record { fits = omega (arith, under (c .before), few (turn (c .before))) }
@@ -167,21 +186,18 @@ put-requires c κs =
     let m = start l .pre .1 .0 in
     (omega (arith, spot, g .fewer, g .same-length, m), (omega (arith, g .same-length, m), (l .loop .inv .1, (g .clear (r .spot) spot, λ e. digit-some (t .digit) (sym unit ∙ e)))))
 
-below-requires : tie.Need-below-requires Inv-loop μ-loop
-below-requires c κs = c .before .before .before .before .before .before .before .before .before .before .highest .ensures .few
-
 loop-less : tie.Need-loop-less Inv-loop μ-loop
 loop-less c =
-    let p = c .before .before .before .before .before .before .before .before in
+    let p = c .before .before .before .before .before .before .before in
     omega (arith, digit p .left-is, two (turn (p .before .before)), under (p .before .before))
 
 loop-again : tie.Need-loop-again Inv-loop μ-loop
 loop-again c =
-    let k = c .before .before .before .before in
+    let k = c .before .before .before in
     let p = k .before .before .before .before in
     let o = p .before .before in
     let l = turn o in
-    (down-put (two l) (same l) (bounds l) (l .loop .inv .0) (o .before .highest .result) (o .before .highest .ensures) (p .placed .result) (digit p) (stored k) (c .below .ensures), k .put .ensures .1)
+    (down-put (two l) (same l) (bounds l) (l .loop .inv .0) (r o) (top o) (p .placed .result) (digit p) (stored k) (o .before .below .ensures), k .put .ensures .1)
 
 smaller-requires : tie.Need-smaller-requires Inv-loop μ-loop
 smaller-requires c κs = search needs
@@ -203,4 +219,4 @@ returns c =
 pub advance-spec : {M : Type 1} → statement M
 advance-spec =
     tie.close
-    (tie.spec Inv-loop μ-loop lowest-place-requires bits-requires stretch-under-requires sub-opening opening-requires loop-holds highest-requires window-requires work-out-requires cast-placed add-placed add-placed-2 placed-requires put-requires below-requires loop-less loop-again smaller-requires same-length same-length-2 returns)
+    (tie.spec Inv-loop μ-loop bits-requires sub-tail lowest-place-requires stretch-under-requires sub-opening opening-requires loop-holds highest-requires below-requires window-requires work-out-requires cast-placed add-placed add-placed-2 placed-requires put-requires loop-less loop-again smaller-requires same-length same-length-2 returns)
