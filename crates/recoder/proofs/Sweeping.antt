@@ -6,26 +6,29 @@ use mathlib.Core.Bool.{Bool, true, false}
 use mathlib.Core.List.{List}
 use Prim.Native.Nat.{ℕ, zero, suc, _+_, _*_, _-_, _/_, _%_, _^_, _<_, _≤_}
 use native.Mathlib.Omega.{arith}
-use native.Mathlib.Decide.{decLe, decLt}
+use native.Mathlib.Decide.{decLe, decLt, ℕ-discrete}
 use native.Mathlib.Nat.{add-zero, mod-lt, mod-one, zero-mod, zero-mul, one-mul, suc-mul, zero-div, mul-mod-left}
 use lib.Bits.{bitXor, xor-shr, xor-mod, xor-self, xor-add-and, and-le-l, and-le-r}
 use lib.Count.{leadingZeros, trailingZeros, leading-top}
-use lib.IntN.{ℤ, pos, _-ℤ_}
+use lib.IntN.{ℤ, pos, natAbs, _-ℤ_}
 use lib.ListN.{length, getD, set, replicate, length-set, length-replicate}
 use lib.Pow.{pow-pos, pow-mono, pow-add, field, mod-mod-pow, mod-pow-add, shl-shr, shr-shr, shr-lt, shr-mono}
-use lib.Seq.{getD-set-other}
+use lib.Seq.{getD-set-same, getD-set-other, ext-getD}
 use Rattle.meaning.specs.Scalars.{bit, below}
 use Rattle.meaning.specs.Windows.{windowBits, leading, second, oddPart}
+use Rattle.laws.proofs.Integers.{sub-zero-same}
+use Rattle.meaning.specs.Mof.{mofDigit, mof}
 use Rattle.meaning.specs.Wmof.{windowAt, spot}
 use Rattle.meaning.specs.Closest.{larger, smaller}
+use Rattle.forms.proofs.Mof.{mof-length, mof-at}
 use Rattle.forms.proofs.Rest.{rest, Differ, differ}
 use Rattle.forms.proofs.Wmof.{At}
 use Rattle.forms.proofs.Ties.{Lowest, lowest-bit, opens-some}
 use Rattle.forms.proofs.Loops.{from, from-same, from-open, from-last, last-at, from-wmof, from-closest}
 use Rattle.windows.specs.declared.opening.Place.{Place}
 use Rattle.windows.proofs.Opened.{opened-at, opened-last, opened-leading, opened-second, leads, follows, Puts}
-use Rattle.recoder.specs.Sweeps.{Clear, Highest, Swept, Untied, Turns, Settled, Turned, openings}
-use Rattle.recoder.proofs.Strings.{zero-at}
+use Rattle.recoder.specs.Sweeps.{Above, Clear, Highest, Swept, Untied, Turns, Settled, Turned, openings}
+use Rattle.recoder.proofs.Strings.{zero-at, same-none}
 use Rattle.recoder.proofs.Stretches.{same-low, same-high}
 
 -- ---- the places that are left hold zeros
@@ -202,7 +205,7 @@ other-bits : (a b : ℕ) → bitXor a b ≡ 1 → a ≢ b
 other-bits a b e k = omega (arith, ap (bitXor a) k ∙ e, xor-self a)
 
 -- ---- a stretch x from place `lowest` on: in its low 56 bits stand those of N, w places higher up
-module _ (w N lowest x : ℕ) (two : 2 ≤ w) (same : x % 2 ^ 56 ≡ N * 2 ^ w / 2 ^ lowest % 2 ^ 56) where
+module _ (w N lowest x : ℕ) (some : 0 < w) (same : x % 2 ^ 56 ≡ N * 2 ^ w / 2 ^ lowest % 2 ^ 56) where
   abbrev D : ℕ
   D = bitXor x (x / 2) / 2 ^ (w - 1)
 
@@ -213,14 +216,14 @@ module _ (w N lowest x : ℕ) (two : 2 ≤ w) (same : x % 2 ^ 56 ≡ N * 2 ^ w /
       same-high x R (w + 1) q (same-low x R 56 (w + 1 + q) (omega arith) same) ∙ ap (λ t. t % 2 ^ (w + 1)) (shr-shr (N * 2 ^ w) lowest q)
 
   -- the bit of place q, and the one under it
-  here : (q : ℕ) → q + w < 56 → x / 2 ^ (q + w) % 2 ≡ bit N (lowest + q)
+  pub here : (q : ℕ) → q + w < 56 → x / 2 ^ (q + w) % 2 ≡ bit N (lowest + q)
   here q h =
       let e : 1 + w ≡ w + 1 = omega arith in
       ap (λ t. t % 2) (sym (shr-shr x q w)) ∙ sym (field (x / 2 ^ q) 1 w) ∙ ap (λ t. x / 2 ^ q % 2 ^ t / 2 ^ w) e ∙ ap (λ t. t / 2 ^ w) (seen q h) ∙ opened-leading w N (lowest + q)
 
-  under : (q : ℕ) → q + w < 56 → x / 2 ^ (q + (w - 1)) % 2 ≡ below N (lowest + q)
+  pub under : (q : ℕ) → q + w < 56 → x / 2 ^ (q + (w - 1)) % 2 ≡ below N (lowest + q)
   under q h =
-      ap (λ t. t % 2) (sym (shr-shr x q (w - 1))) ∙ sym (low-bit (x / 2 ^ q) (w + 1) (w - 1) (omega arith)) ∙ ap (λ t. t / 2 ^ (w - 1) % 2) (seen q h) ∙ opened-second w N (lowest + q) two
+      ap (λ t. t % 2) (sym (shr-shr x q (w - 1))) ∙ sym (low-bit (x / 2 ^ q) (w + 1) (w - 1) (omega arith)) ∙ ap (λ t. t / 2 ^ (w - 1) % 2) (seen q h) ∙ opened-second w N (lowest + q) some
 
   -- whether they differ
   told : (q : ℕ) → q + w < 56 → D / 2 ^ q % 2 ≡ bitXor (below N (lowest + q)) (bit N (lowest + q))
@@ -306,6 +309,9 @@ pub record Down (w N lowest x floor m : ℕ) (ds : List ℤ) (opens left : ℕ) 
 
 module _ {w N lowest x floor m opens left : ℕ} {ds d : List ℤ} (two : 2 ≤ w) (same : x % 2 ^ 56 ≡ N * 2 ^ w / 2 ^ lowest % 2 ^ 56)
     (bounds : (floor ≤ lowest) × (lowest < m) × (m + w ≤ lowest + 56)) (g : Down w N lowest x floor m ds opens left d) where
+  one : 0 < w
+  one = omega arith
+
   abbrev u : ℕ
   u = left - lowest
 
@@ -313,7 +319,7 @@ module _ {w N lowest x floor m opens left : ℕ} {ds d : List ℤ} (two : 2 ≤ 
   room = omega (arith, g .swept .fewer, bounds)
 
   pub down-some : opens ≢ 0 → 2 ^ (w - 1) ≤ opens
-  down-some n = rw (g .opens-are) (some-open w N lowest x two same u room (rw (g .opens-are) at n))
+  down-some n = rw (g .opens-are) (some-open w N lowest x one same u room (rw (g .opens-are) at n))
 
   -- the end: no window opens any more
   pub down-end : {r : ℕ} → opens ≡ 0 → (left < lowest → r ≡ left) → (lowest ≤ left → r ≡ lowest) → (r < m) × Swept w N floor m ds r d
@@ -323,7 +329,7 @@ module _ {w N lowest x floor m opens left : ℕ} {ds d : List ℤ} (two : 2 ≤ 
       go (yes h) = (omega (arith, low h, bounds), rw (low h) (g .swept))
       go (no h) =
           let k : lowest ≤ left = omega arith in
-          let all = none-open w N lowest x two same u room (sym (g .opens-are) ∙ e) in
+          let all = none-open w N lowest x one same u room (sym (g .opens-are) ∙ e) in
           let at : (q : ℕ) → lowest ≤ q → lowest + (q - lowest) ≡ q = λ q l. omega arith in
           (omega (arith, high k, bounds), rw (high k) (swept-pass two lowest (g .swept) k (λ q l n. rw (at q l) at (all (q - lowest) (omega arith)))))
 
@@ -336,21 +342,114 @@ module _ {w N lowest x floor m opens left : ℕ} {ds d : List ℤ} (two : 2 ≤ 
     found = rw (g .opens-are) at top
 
     pub down-under : i < left
-    down-under = omega (arith, inside w N lowest x two same u room r found)
+    down-under = omega (arith, inside w N lowest x one same u room r found)
 
     pub down-seen : x / 2 ^ r % 2 ^ (w + 1) ≡ windowBits w N i
-    down-seen = seen w N lowest x two same r (omega (arith, down-under, g .swept .fewer, bounds))
+    down-seen = seen w N lowest x one same r (omega (arith, down-under, g .swept .fewer, bounds))
 
     pub down-opens : bit N i ≢ below N i
-    down-opens = opens-there w N lowest x two same u room r found
+    down-opens = opens-there w N lowest x one same u room r found
 
     -- its digit is put
     pub down-put : {opens′ : ℕ} {d′ : List ℤ} (p : Place) → Puts w i (windowAt w N i) p → d′ ≡ set d (p .spot) (p .unit) → opens′ ≡ opens % 2 ^ r → Down w N lowest x floor m ds opens′ (p .left) d′
     down-put p P e o =
         let at : (q : ℕ) → suc i ≤ q → lowest + (q - lowest) ≡ q = λ q l. omega arith in
-        let passed = swept-pass two (suc i) (g .swept) (omega (arith, down-under)) (λ q l n. rw (at q l) at (none-over w N lowest x two same u room r found (q - lowest) (omega arith) (omega arith))) in
+        let passed = swept-pass two (suc i) (g .swept) (omega (arith, down-under)) (λ q l n. rw (at q l) at (none-over w N lowest x one same u room r found (q - lowest) (omega arith) (omega arith))) in
         let k : r + 1 - w ≡ p .left - lowest = omega (arith, P .left-is) in
         record {
           swept = swept-put two i p passed (omega (arith, bounds)) down-opens P e;
-          opens-are = o ∙ ap (λ t. t % 2 ^ r) (g .opens-are) ∙ left-open w N lowest x two same u room r found ∙ ap (openings (w - 1) x) k;
+          opens-are = o ∙ ap (λ t. t % 2 ^ r) (g .opens-are) ∙ left-open w N lowest x one same u room r found ∙ ap (openings (w - 1) x) k;
+        }
+
+-- ---- MOF: its digits are put where a window of one place opens
+module _ {N n : ℕ} where
+  pub above-none : (z : List ℤ) {d : List ℤ} → length z ≡ n + 1 → d ≡ replicate (length z) (pos 0) → Above N n (n + 1) d
+  above-none z l e =
+      record {
+        same-length = ap length e ∙ length-replicate (length z) (pos 0) ∙ l;
+        within = omega arith;
+        stand = λ j h k. absurd (omega arith);
+        clear = λ j h. ap (λ x. getD x j (pos 0)) e ∙ zero-at (length z) j;
+      }
+
+  above-pass : {m : ℕ} {d : List ℤ} (i : ℕ) → Above N n m d → i ≤ m → ((q : ℕ) → i ≤ q → q < m → bit N q ≡ below N q) → Above N n i d
+  above-pass {m} {d} i a h same =
+      record { same-length = a .same-length; within = omega (arith, a .within); stand = λ j l k. go j l k (decLt j m); clear = λ j k. a .clear j (omega arith) }
+    where
+      go : (j : ℕ) → i ≤ j → j < n + 1 → Dec (j < m) → getD d j (pos 0) ≡ mofDigit N j
+      go j l k (yes g) = a .clear j g ∙ sym (same-none (below N j) (bit N j) (sym (same j l g)))
+      go j l k (no g) = a .stand j (omega arith) k
+
+  above-put : {d d′ : List ℤ} (i : ℕ) (z : ℤ) → Above N n (suc i) d → z ≡ mofDigit N i → d′ ≡ set d i z → Above N n i d′
+  above-put {d} {d′} i z a v e =
+      record {
+        same-length = ap length e ∙ length-set d i z ∙ a .same-length;
+        within = omega (arith, a .within);
+        stand = λ j l k. go j l k (ℕ-discrete j i);
+        clear = clear-put d i z (suc i) i (a .clear) (omega arith) (omega arith) e;
+      }
+    where
+      go : (j : ℕ) → i ≤ j → j < n + 1 → Dec (j ≡ i) → getD d′ j (pos 0) ≡ mofDigit N j
+      go j l k (yes f) = ap (λ x. getD x j (pos 0)) e ∙ rw f (getD-set-same d i z (pos 0) (omega (arith, a .within, a .same-length)) ∙ v)
+      go j l k (no f) = ap (λ x. getD x j (pos 0)) e ∙ getD-set-other d i j z (pos 0) f ∙ a .stand j (omega arith) k
+
+  pub above-all : {d : List ℤ} → Above N n 0 d → d ≡ mof N n
+  above-all {d} a = ext-getD (pos 0) d (mof N n) (a .same-length ∙ sym (mof-length N n)) (λ k l. a .stand k (omega arith) (omega (arith, a .same-length)) ∙ sym (mof-at N n k (omega (arith, a .same-length))))
+
+-- a turn: the digits over the places left stand, and the places under them where one stands are told
+pub record Told (N n lowest x : ℕ) (opens : ℕ) (d : List ℤ) : Type 0 where
+  pub left : ℕ
+  pub above : Above N n left d
+  pub over : lowest ≤ left
+  pub room : left + 1 ≤ lowest + 56
+  pub opens-are : opens ≡ openings 0 x (left - lowest)
+
+module _ {N n lowest x opens : ℕ} {d : List ℤ} (same : x % 2 ^ 56 ≡ N * 2 ^ 1 / 2 ^ lowest % 2 ^ 56) (g : Told N n lowest x opens d) where
+  abbrev u₁ : ℕ
+  u₁ = g .left - lowest
+
+  one₁ : 0 < 1
+  one₁ = omega arith
+
+  room₁ : u₁ + 1 ≤ 56
+  room₁ = omega (arith, g .room, g .over)
+
+  pub told-some : opens ≢ 0 → 2 ^ 0 ≤ opens
+  told-some m = omega arith
+
+  pub told-end : opens ≡ 0 → Above N n lowest d
+  told-end e =
+      let all = none-open 1 N lowest x one₁ same u₁ room₁ (sym (g .opens-are) ∙ e) in
+      let at : (q : ℕ) → lowest ≤ q → lowest + (q - lowest) ≡ q = λ q l. omega arith in
+      above-pass lowest (g .above) (g .over) (λ q l m. rw (at q l) at (all (q - lowest) (omega arith)))
+
+  module _ (r : ℕ) (top : Highest 0 opens r) where
+    found₁ : Highest 0 (openings 0 x u₁) r
+    found₁ = rw (g .opens-are) at top
+
+    pub told-under : lowest + r < g .left
+    told-under = omega (arith, inside 1 N lowest x one₁ same u₁ room₁ r found₁)
+
+    pub told-digit : pos (x / 2 ^ r % 2) -ℤ pos (x / 2 ^ (r + 1) % 2) ≡ mofDigit N (lowest + r)
+    told-digit =
+        let h : r + 1 < 56 = omega (arith, told-under, g .room) in
+        ap (λ t. pos (x / 2 ^ t % 2) -ℤ pos (x / 2 ^ (r + 1) % 2)) (sym (add-zero r))
+        ∙ ap (λ t. pos t -ℤ pos (x / 2 ^ (r + 1) % 2)) (under 1 N lowest x one₁ same r h)
+        ∙ ap (λ t. pos (below N (lowest + r)) -ℤ pos t) (here 1 N lowest x one₁ same r h)
+
+    pub told-nonzero : mofDigit N (lowest + r) ≢ pos 0
+    told-nonzero e = opens-there 1 N lowest x one₁ same u₁ room₁ r found₁ (ap natAbs (sym (sub-zero-same (pos (below N (lowest + r))) (pos (bit N (lowest + r))) e)))
+
+    pub told-put : {opens′ : ℕ} {d′ : List ℤ} (z : ℤ) → z ≡ mofDigit N (lowest + r) → d′ ≡ set d (lowest + r) z → opens′ ≡ opens % 2 ^ r → Told N n lowest x opens′ d′
+    told-put z v e o =
+        let i = lowest + r in
+        let at : (q : ℕ) → suc i ≤ q → lowest + (q - lowest) ≡ q = λ q l. omega arith in
+        let passed = above-pass (suc i) (g .above) (omega (arith, told-under)) (λ q l m. rw (at q l) at (none-over 1 N lowest x one₁ same u₁ room₁ r found₁ (q - lowest) (omega arith) (omega arith))) in
+        let k : r + 1 - 1 ≡ i - lowest = omega arith in
+        record {
+          left = i;
+          above = above-put i z passed v e;
+          over = omega arith;
+          room = omega (arith, told-under, g .room);
+          opens-are = o ∙ ap (λ t. t % 2 ^ r) (g .opens-are) ∙ left-open 1 N lowest x one₁ same u₁ room₁ r found₁ ∙ ap (openings 0 x) k;
         }

@@ -9,6 +9,7 @@ use lib.IntN.{ℤ, pos}
 use lib.ListN.{length, getD}
 use Rattle.meaning.specs.Scalars.{bit, below}
 use Rattle.meaning.specs.Windows.{leading, second}
+use Rattle.meaning.specs.Mof.{mofDigit}
 use Rattle.meaning.specs.Wmof.{wmof}
 use Rattle.meaning.specs.Closest.{larger, smaller}
 use Rattle.forms.specs.Closest.{closestOf}
@@ -41,6 +42,13 @@ pub record Settled (b w N t m : ℕ) (ds : List ℤ) (m′ : ℕ) (ds′ : List 
   pub clear : Clear m′ ds′
   pub comes : from b w N t m ds ≡ from b w N t m′ ds′
   pub untied : Untied b w N t 0 m′
+
+-- MOF's digits stand from place m up
+pub record Above (N n m : ℕ) (ds : List ℤ) : Type 0 where
+  pub same-length : length ds ≡ n + 1
+  pub within : m ≤ n + 1
+  pub stand : (j : ℕ) → m ≤ j → j < n + 1 → getD ds j (pos 0) ≡ mofDigit N j
+  pub clear : Clear m ds
 
 -- the bits of the first `count` places of stretch x that differ from the bit under them, `tail` places higher up. The lowest place has tail + 1 bits under it
 abbrev pub openings : (tail x count : ℕ) → ℕ

@@ -8,7 +8,8 @@ ghost use Rattle.meaning.specs.Scalars.{number, bitCount, mostBytes};
 ghost use Rattle.meaning.specs.Digits.{mostPlaces};
 ghost use Rattle.meaning.specs.Recoding.{markWords, marksOf};
 ghost use Rattle.width.specs.Widths.{Lawful};
-ghost use Rattle.recoder.specs.Sweeps.{Clear, Highest, Swept, Turns, Settled, Turned, openings};
+ghost use Rattle.recoder.specs.Sweeps.{Clear, Swept, Turns, Settled, Turned};
+use crate::opened;
 use crate::places;
 use scalar::STRETCH;
 use width::Width;
@@ -27,31 +28,7 @@ fn lowest_place(w: Width, left: usize, floor: usize) -> usize
     }
 }
 
-// The places among the first `count` of stretch x whose bit differs from the one under it, `tail` places higher up: so many a window has under its first.
-fn opening(tail: u32, x: u64, count: usize) -> u64
-    requires { ⌜ count + tail ≤ 56 ⌝ }
-    ensures { λ r. ⌜ r ≡ openings tail x count ⌝ }
-{
-    (((x ^ (x >> 1)) >> tail) % (1u64 << count)) << tail
-}
-
-// The highest of them.
-fn highest(tail: u32, opens: u64) -> u32
-    requires { ⌜ 2 ^ tail ≤ opens ⌝ }
-    ensures { λ r. ⌜ Highest tail opens r ⌝ }
-{
-    63 - u64::leading_zeros(opens) - tail
-}
-
-// Those that are left under a window that opens at place `at`.
-fn below(opens: u64, at: u32) -> u64
-    requires { ⌜ at < 64 ⌝ }
-    ensures { λ r. ⌜ r ≡ opens % 2 ^ at ⌝ }
-{
-    opens % (1u64 << at)
-}
-
-// The window that opens there.
+// The window that opens at place `at` of stretch x.
 fn window(w: Width, x: u64, at: u32) -> u32
     requires { ⌜ Lawful (w .bits) ⌝ }
     requires { ⌜ at < 64 ⌝ }
@@ -88,11 +65,11 @@ fn advance(
     let tail = width - 1;
     let lowest = lowest_place(w, from, floor);
     let x = scalar::stretch_under(s, lowest, width);
-    let mut opens = opening(tail, x, from - lowest);
+    let mut opens = opened::places(tail, x, from - lowest);
     let mut left = from;
     while opens != 0 {
-        let at = highest(tail, opens);
-        opens = below(opens, at);
+        let at = opened::highest(tail, opens);
+        opens = opened::below(opens, at);
         let bits = window(w, x, at);
         let place = windows::opening::placed(
             w,

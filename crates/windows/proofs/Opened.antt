@@ -30,14 +30,14 @@ pub opened-leading : (w N i : ℕ) → leading w (windowBits w N i) ≡ bit N i
 opened-leading w N i = bits-top w N i
 
 -- and the bit under it comes second
-pub opened-second : (w N i : ℕ) → 2 ≤ w → second w (windowBits w N i) ≡ below N i
+pub opened-second : (w N i : ℕ) → 0 < w → second w (windowBits w N i) ≡ below N i
 opened-second w N i h =
     let k : w ≡ suc (w - 1) = omega arith in
     ap (λ v. windowBits v N i / 2 ^ (w - 1) % 2) k ∙ bits-next (w - 1) N i
 
 -- where bit i and the bit under it are different, so are the two leading bits
 pub opened : (w N i : ℕ) → 2 ≤ w → bit N i ≢ below N i → leading w (windowBits w N i) ≢ second w (windowBits w N i)
-opened w N i h d e = d (sym (opened-leading w N i) ∙ e ∙ opened-second w N i h)
+opened w N i h d e = d (sym (opened-leading w N i) ∙ e ∙ opened-second w N i (omega arith))
 
 -- the lowest bit of a window that opens w places above place t
 pub opened-last : (w N t : ℕ) → windowBits w N (w + t) % 2 ≡ bit N t
@@ -69,7 +69,7 @@ module _ (w N i s : ℕ) (two : 2 ≤ w) (seen : s ≡ windowBits w N i) where
 
   -- and the bit under it comes second
   pub follows : second w s ≡ below N i
-  follows = ap (λ x. x / 2 ^ (w - 1) % 2) seen ∙ opened-second w N i two
+  follows = ap (λ x. x / 2 ^ (w - 1) % 2) seen ∙ opened-second w N i (omega arith)
 
   -- so whether the window opens tells whether they are different
   module _ (r : Bool) (tells : Tells w s r) where

@@ -21,7 +21,7 @@ pub fn look_up(w: Width, s: u32) -> Window
 }
 
 // The difference of two sizes, as a digit.
-fn difference(a: u32, b: u32) -> i8
+pub fn difference(a: u32, b: u32) -> i8
     requires { ⌜ (a < b + 128) × (b < a + 128) ⌝ }
     ensures { λ r. ⌜ r ≡ pos a -ℤ pos b ⌝ }
 {

@@ -128,16 +128,16 @@ lowest-place-requires c κs = search needs
 stretch-under-requires : tie.Need-stretch-under-requires Inv-loop μ-loop
 stretch-under-requires c κs = search needs
 
-sub-opening : tie.Need-sub-opening Inv-loop μ-loop
-sub-opening c = search needs
+sub-places : tie.Need-sub-places Inv-loop μ-loop
+sub-places c = search needs
 
-opening-requires : tie.Need-opening-requires Inv-loop μ-loop
-opening-requires c κs = search needs
+places-requires : tie.Need-places-requires Inv-loop μ-loop
+places-requires c κs = search needs
 
 loop-holds : tie.Need-loop-holds Inv-loop μ-loop
 loop-holds c =
     let p = c .before .before .before .before .before .before .pre in
-    (record { swept = swept-none (p .1 .1 .1); opens-are = c .opening .ensures ∙ ap (λ w. openings (w - 1) (c .before .stretch-under .result) (c .before .before .before .before .before .before .args .from - c .before .before .lowest-place .result)) (c .before .before .before .bits .ensures) }, p .1 .1 .0)
+    (record { swept = swept-none (p .1 .1 .1); opens-are = c .places .ensures ∙ ap (λ w. openings (w - 1) (c .before .stretch-under .result) (c .before .before .before .before .before .before .args .from - c .before .before .lowest-place .result)) (c .before .before .before .bits .ensures) }, p .1 .1 .0)
 
 highest-requires : tie.Need-highest-requires Inv-loop μ-loop
 highest-requires c κs =
@@ -219,4 +219,4 @@ returns c =
 pub advance-spec : {M : Type 1} → statement M
 advance-spec =
     tie.close
-    (tie.spec Inv-loop μ-loop bits-requires sub-tail lowest-place-requires stretch-under-requires sub-opening opening-requires loop-holds highest-requires below-requires window-requires work-out-requires cast-placed add-placed add-placed-2 placed-requires put-requires loop-less loop-again smaller-requires same-length same-length-2 returns)
+    (tie.spec Inv-loop μ-loop bits-requires sub-tail lowest-place-requires stretch-under-requires sub-places places-requires loop-holds highest-requires below-requires window-requires work-out-requires cast-placed add-placed add-placed-2 placed-requires put-requires loop-less loop-again smaller-requires same-length same-length-2 returns)

@@ -1,74 +1,60 @@
--- `recoder::mof::write` meets its contract. The invariant: the string is written up to place j, and `under` is the bit under it. Assumes nothing.
-use mathlib.Core.Path.{_≡_, sym, ap, _∙_}
-use Prim.Native.Nat.{_*_, _-_}
-use native.Mathlib.Nat.{div-one}
+-- `recoder::mof::write` meets its contract. The invariant: the digits over the places left stand. Assumes nothing.
+use mathlib.Core.Path.{_≡_, sym, ap, subst, _∙_}
 use native.Mathlib.Omega.{arith}
-use native.Mathlib.Numerals.{add-one}
-use borrow.Author.Needs.{needs, sfits-of}
-use lib.IntN.{pos, _-ℤ_}
-use lib.ListN.{length, length-set}
+use borrow.Author.Needs.{needs}
 use denote.Ref.{now}
-use mir.Facts.{toZ-ofZ}
-use Rattle.laws.proofs.Stores.{Filled, fill-none, fill-more, fill-exact}
-use Rattle.meaning.specs.Scalars.{number, bitCount, below}
-use Rattle.meaning.specs.Mof.{mof}
-use Rattle.forms.proofs.Rest.{below-suc}
-use Rattle.forms.proofs.Mof.{mof-length, mof-at}
+use lib.ListN.{length}
+use Rattle.meaning.specs.Scalars.{number, bitCount}
+use Rattle.meaning.specs.Recoding.{marksOf}
+use Rattle.recoder.specs.Sweeps.{Above}
+use Rattle.recoder.proofs.Marking.{marks-length}
+use Rattle.recoder.proofs.Sweeping.{above-none, above-all}
 use Rattle.recoder.proofs.mof.write.Statement.{statement}
 use Rattle.recoder.proofs.mof.write.Tie as tie
 
 abbrev Inv-loop : tie.InvT-loop
-Inv-loop s digits₀ under₀ j₀ digits under j = Filled (mof (number s) (bitCount s)) digits₀ digits j × (under ≡ below (number s) j)
+Inv-loop s digits₀ marks₀ left₀ digits marks left = Above (number s) (bitCount s) left digits × (marks ≡ marksOf digits)
 
 abbrev μ-loop : tie.MeasureT-loop
-μ-loop s digits₀ under₀ j₀ digits under j = length digits - j
+μ-loop s digits₀ marks₀ left₀ digits marks left = left
+
+-- what the function was called with
+abbrev start : tie.At-loop Inv-loop μ-loop → tie.Start Inv-loop μ-loop
+start l = l .before .before .before .before .before .before .before .before .before
+
+clear-requires : tie.Need-clear-requires Inv-loop μ-loop
+clear-requires c κs = search needs
 
 loop-holds : tie.Need-loop-holds Inv-loop μ-loop
 loop-holds c =
-    let N = number (now (c .before .args .s)) in
-    (fill-none (mof N (bitCount (now (c .before .args .s)))) (now (c .before .args .digits)), omega (arith, div-one (2 * N)))
+    let (z, m) = c .before .before .before .clear .ensures in
+    let s = c .before .before .before .before .before .before .before .before in
+    let a = above-none (now (s .args .digits)) (s .pre .1 .0) z in
+    (rw (a .same-length) a, m)
 
-bit-requires : tie.Need-bit-requires Inv-loop μ-loop
-bit-requires c κs = search needs
-
-digit-requires : tie.Need-digit-requires Inv-loop μ-loop
-digit-requires c κs = omega arith
-
-slice-set-from-digits : tie.Need-slice-set-from-digits Inv-loop μ-loop
-slice-set-from-digits c = search needs
-
-add-j : tie.Need-add-j Inv-loop μ-loop
-add-j c = omega arith
+advance-requires : tie.Need-advance-requires Inv-loop μ-loop
+advance-requires c κs =
+    let l = c .before .before .before in
+    (start l .pre .0, (c .before .before .loop-test .taken, l .loop .inv))
 
 loop-less : tie.Need-loop-less Inv-loop μ-loop
-loop-less c = simp length-set (omega arith)
+loop-less c = c .before .before .before .advance .ensures .0
 
 loop-again : tie.Need-loop-again Inv-loop μ-loop
-loop-again c =
-    let a = c .before .before .before .before .before .args in
-    let l = c .before .before .before .loop in
-    let N = number (now (a .s)) in
-    let n = bitCount (now (a .s)) in
-    let here = c .before .bit in
-    let d = toZ-ofZ (sfits-of (c .digit .ok)) ∙ c .digit .ensures ∙ ap (λ t. pos t -ℤ pos (here .result)) (l .inv .1) ∙ ap (λ t. pos (below N (l .j)) -ℤ pos t) (here .ensures) in
-    let w = mof-length N n in (
-      fill-more (mof N n) (now (a .digits)) (l .digits) (l .j) _ (pos 0) (l .inv .0) (omega arith) (omega arith) (d ∙ sym (mof-at N n (l .j) (omega arith))),
-      here .ensures ∙ sym (below-suc N (l .j)) ∙ ap (below N) (sym (add-one (l .j))),
-    )
+loop-again c = c .before .before .before .advance .ensures .1
 
 same-length : tie.Need-same-length Inv-loop μ-loop
-same-length c = c .before .loop .inv .0 .same-length
+same-length c = let l = c .before in l .loop .inv .0 .same-length ∙ sym (start l .pre .1 .0)
+
+same-length-2 : tie.Need-same-length-2 Inv-loop μ-loop
+same-length-2 c = let l = c .before in ap length (l .loop .inv .1) ∙ marks-length (l .loop .digits) ∙ sym (start l .pre .1 .1)
 
 returns : tie.Need-returns Inv-loop μ-loop
 returns c =
-    let a = c .before .before .before .args in
     let l = c .before .loop in
-    let N = number (now (a .s)) in
-    let n = bitCount (now (a .s)) in
-    let w = mof-length N n in
-    fill-exact (mof N n) (now (a .digits)) (l .digits) (l .j) (l .inv .0) (omega arith) (omega arith)
+    let s = start (c .before) .args .s in
+    let none : l .left ≡ 0 = omega (arith, c .loop-test .left) in
+    (above-all (subst (λ m. Above (number (now s)) (bitCount (now s)) m (l .digits)) none (l .inv .0)), l .inv .1)
 
 pub write-spec : {M : Type 1} → statement M
-write-spec =
-    tie.close
-    (tie.spec Inv-loop μ-loop loop-holds bit-requires digit-requires slice-set-from-digits add-j loop-less loop-again same-length returns)
+write-spec = tie.close (tie.spec Inv-loop μ-loop clear-requires loop-holds advance-requires loop-less loop-again same-length same-length-2 returns)

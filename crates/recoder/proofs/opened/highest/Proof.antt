@@ -1,12 +1,12 @@
--- `recoder::descending::highest` meets its contract. Assumes nothing.
+-- `recoder::opened::highest` meets its contract. Assumes nothing.
 use mathlib.Core.Path.{refl}
 use Prim.Native.Nat.{_-_, _≤_}
 use native.Mathlib.Omega.{arith}
 use lib.Count.{leadingZeros}
 use Rattle.recoder.specs.Sweeps.{Highest}
 use Rattle.recoder.proofs.Sweeping.{highest-is}
-use Rattle.recoder.proofs.descending.highest.Statement.{statement}
-use Rattle.recoder.proofs.descending.highest.Tie as tie
+use Rattle.recoder.proofs.opened.highest.Statement.{statement}
+use Rattle.recoder.proofs.opened.highest.Tie as tie
 
 found : (c : tie.Start) → let z = leadingZeros 64 (c .args .opens) in (z ≤ 63) × (c .args .tail ≤ 63 - z) × Highest (c .args .tail) (c .args .opens) (63 - z - c .args .tail)
 found c = highest-is (c .args .tail) (c .args .opens) (leadingZeros 64 (c .args .opens)) (omega arith) (c .pre) refl

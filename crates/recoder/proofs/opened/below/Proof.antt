@@ -1,12 +1,12 @@
--- `recoder::descending::below` meets its contract. Assumes nothing.
+-- `recoder::opened::below` meets its contract. Assumes nothing.
 use mathlib.Core.Path.{ap}
 use Prim.Native.Nat.{_%_}
 use native.Mathlib.Omega.{arith}
 use borrow.Author.Needs.{needs}
 use lib.Pow.{pow-pos}
 use Rattle.recoder.proofs.Stretches.{shl-one}
-use Rattle.recoder.proofs.descending.below.Statement.{statement}
-use Rattle.recoder.proofs.descending.below.Tie as tie
+use Rattle.recoder.proofs.opened.below.Statement.{statement}
+use Rattle.recoder.proofs.opened.below.Tie as tie
 
 shl-result : tie.Need-shl-result
 shl-result c = search needs

@@ -1,4 +1,4 @@
--- `recoder::descending::opening` meets its contract. Assumes nothing.
+-- `recoder::opened::places` meets its contract. Assumes nothing.
 use mathlib.Core.Path.{ap, _∙_}
 use Prim.Native.Nat.{_*_, _/_, _%_, _^_}
 use native.Mathlib.Omega.{arith}
@@ -7,8 +7,8 @@ use borrow.Author.Needs.{needs}
 use lib.Bits.{bitXor}
 use lib.Pow.{pow-pos, shl-exact}
 use Rattle.recoder.proofs.Stretches.{shl-one}
-use Rattle.recoder.proofs.descending.opening.Statement.{statement}
-use Rattle.recoder.proofs.descending.opening.Tie as tie
+use Rattle.recoder.proofs.opened.places.Statement.{statement}
+use Rattle.recoder.proofs.opened.places.Tie as tie
 
 shr-result : tie.Need-shr-result
 shr-result c = search needs
@@ -28,5 +28,5 @@ returns c =
     let d = bitXor (a .x) (a .x / 2) / 2 ^ a .tail in
     ap (λ t. d % t * 2 ^ a .tail % 2 ^ 64) (shl-one (a .count) (omega arith)) ∙ shl-exact (a .count) (a .tail) 64 (mod-lt d (pow-pos (a .count))) (omega arith)
 
-pub opening-spec : {M : Type 1} → statement M
-opening-spec = tie.close (tie.spec shr-result shl-result rem-result shl-result-2 returns)
+pub places-spec : {M : Type 1} → statement M
+places-spec = tie.close (tie.spec shr-result shl-result rem-result shl-result-2 returns)
