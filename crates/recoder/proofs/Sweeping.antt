@@ -15,7 +15,7 @@ use lib.ListN.{length, getD, set, replicate, length-set, length-replicate}
 use lib.Pow.{pow-pos, pow-mono, pow-add, field, mod-mod-pow, mod-pow-add, shl-shr, shr-shr, shr-lt, shr-mono}
 use lib.Seq.{getD-set-same, getD-set-other, ext-getD}
 use Rattle.meaning.specs.Scalars.{bit, below}
-use Rattle.meaning.specs.Windows.{windowBits, leading, second, oddPart}
+use Rattle.meaning.specs.Windows.{windowBits, oddPart}
 use Rattle.laws.proofs.Integers.{sub-zero-same}
 use Rattle.meaning.specs.Mof.{mofDigit, mof}
 use Rattle.meaning.specs.Wmof.{windowAt, spot}
@@ -45,10 +45,6 @@ cleared b w N t n z d l e =
 
 -- ---- a turn with m places left
 module _ (b w N t i m : ℕ) (two : 2 ≤ w) (above : suc i ≡ m) (d : List ℤ) where
-  -- no window: the rule makes the same string of the places under place i
-  pub turn-same : bit N i ≡ below N i → from b w N t m d ≡ from b w N t i d
-  turn-same e = ap (λ x. from b w N t x d) (sym above) ∙ from-same b w N t two i d e
-
   -- the digit is put
   put-is : (v : ℤ) (p : Place) → Puts w i v p → set d (spot w i v) (oddPart w v) ≡ set d (p .spot) (p .unit)
   put-is v p P = ap (λ x. set d x (oddPart w v)) (sym (P .spot-is)) ∙ ap (set d (p .spot)) (sym (P .unit-is))
@@ -413,9 +409,6 @@ module _ {N n lowest x opens : ℕ} {d : List ℤ} (same : x % 2 ^ 56 ≡ N * 2 
 
   room₁ : u₁ + 1 ≤ 56
   room₁ = omega (arith, g .room, g .over)
-
-  pub told-some : opens ≢ 0 → 2 ^ 0 ≤ opens
-  told-some m = omega arith
 
   pub told-end : opens ≡ 0 → Above N n lowest d
   told-end e =

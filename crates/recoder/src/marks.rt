@@ -1,53 +1,15 @@
 // The marks of a string, nine words of them, and the counts that are read off them and off the digits.
 ghost use mathlib.Core.Path.{_≡_};
 ghost use Prim.Native.Nat.{_+_, _*_, _≤_};
-ghost use lib.ListN.{length, drop};
-ghost use Rattle.meaning.specs.Digits.{mostPlaces, nonzero, top};
-ghost use Rattle.meaning.specs.Recoding.{markWords, marked, marksOf};
+ghost use lib.ListN.{length};
+ghost use Rattle.meaning.specs.Digits.{top};
+ghost use Rattle.meaning.specs.Recoding.{markWords};
 ghost use Rattle.recoder.specs.Ones.{onesOf};
 
 // How many words of marks there are, and how many places each of them marks.
 pub const WORDS: usize = 9;
 
 pub const PLACES: usize = 64;
-
-// 1 for a digit that is not 0.
-pub fn one(digit: i8) -> u64
-    ensures { λ r. ⌜ r ≡ nonzero digit ⌝ }
-{
-    if digit == 0 { 0 } else { 1 }
-}
-
-// The marks of the places from place `from` up, as many as a word has.
-fn word(digits: &[i8], from: usize) -> u64
-    requires { ⌜ from ≤ mostPlaces + 64 ⌝ }
-    ensures { λ r. ⌜ r ≡ marked 64 (drop from (now (digits .entry))) ⌝ }
-{
-    let mut bits: u64 = 0;
-    let mut at = from + PLACES;
-    if digits.len() < at {
-        at = digits.len();
-    }
-    while from < at {
-        at -= 1;
-        let digit = digits[at];
-        bits = 2 * bits + one(digit);
-    }
-    bits
-}
-
-// Writes all nine words.
-pub fn write(digits: &[i8], marks: &mut [u64])
-    requires { ⌜ length (now digits) ≤ mostPlaces ⌝ }
-    requires { ⌜ length (now marks) ≡ markWords ⌝ }
-    ensures { λ _. ⌜ now (marks .exit) ≡ marksOf (now (digits .entry)) ⌝ }
-{
-    let mut q: usize = 0;
-    while q < marks.len() {
-        marks[q] = word(digits, PLACES * q);
-        q += 1;
-    }
-}
 
 // The ones of the words, together.
 pub fn weigh(marks: &[u64]) -> u32

@@ -24,7 +24,11 @@ fn lowest_place(from: usize) -> usize
     requires { ⌜ 0 < from ⌝ }
     ensures { λ r. ⌜ (r < from) × (from + 1 ≤ r + 56) ⌝ }
 {
-    if from < STRETCH { 0 } else { from - (STRETCH - 1) }
+    if from < STRETCH {
+        0
+    } else {
+        from - (STRETCH - 1)
+    }
 }
 
 // Writes the digits of one stretch under place `from`. Gives the lowest place of it.

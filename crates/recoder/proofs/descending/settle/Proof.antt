@@ -6,7 +6,7 @@ use native.Mathlib.Omega.{arith}
 use borrow.Author.Needs.{needs, sfits-of}
 use lib.Count.{trailing-le}
 use lib.IntN.{pos, natAbs, _-ℤ_}
-use lib.ListN.{length, set}
+use lib.ListN.{set}
 use denote.Ref.{now}
 use mir.Syntax.{w8}
 use mir.Facts.{toZ-ofZ}
@@ -22,7 +22,6 @@ use Rattle.forms.proofs.Wmof.{At}
 use Rattle.scalar.proofs.Bytes.{number-lt}
 use Rattle.windows.specs.Parts.{Parts}
 use Rattle.windows.proofs.Opened.{opened, opened-lt, Puts, puts}
-use Rattle.recoder.proofs.Marking.{marks-length}
 use Rattle.recoder.proofs.Sweeping.{clear-put, turn-last, turn-at, turn-odd, turn-none, turn-some, settled-none}
 use Rattle.recoder.proofs.descending.settle.Statement.{statement}
 use Rattle.recoder.proofs.descending.settle.Tie as tie

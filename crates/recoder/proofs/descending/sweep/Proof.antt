@@ -1,6 +1,5 @@
 -- `recoder::descending::sweep` meets its contract. The invariant: the windows over the places left are written. Assumes nothing.
 use mathlib.Core.Path.{_≡_, sym, ap, _∙_}
-use Prim.Native.Nat.{_<_, _≤_}
 use native.Mathlib.Omega.{arith}
 use denote.Ref.{now}
 use lib.ListN.{length}

@@ -61,8 +61,7 @@ places-requires c κs = omega (arith, c .before .lowest-place .ensures)
 loop-holds : tie.Need-loop-holds Inv-loop μ-loop
 loop-holds c =
     let l = c .before .before in
-    let p = l .before .before .before .pre in
-    (
+    let p = l .before .before .before .pre in (
       record {
         left = l .before .before .before .args .from;
         above = p .1 .1 .0;
