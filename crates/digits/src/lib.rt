@@ -45,7 +45,8 @@ fn sound(width: Width, digits: &[i8]) -> bool
     all
 }
 
-fn counted(digit: i8) -> u16
+// 1 for a digit that is not 0.
+pub fn counted(digit: i8) -> u16
     ensures { λ r. ⌜ r ≡ nonzero digit ⌝ }
 {
     if digit == 0 { 0 } else { 1 }

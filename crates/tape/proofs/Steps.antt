@@ -5,6 +5,7 @@ use mathlib.Core.Logic.{_≢_, _⊎_, inl, inr}
 use mathlib.Core.Bool.{true, false}
 use mathlib.Core.List.{[], _∷_}
 use Prim.Native.Nat.{ℕ, zero, suc, _+_, _-_, _/_, _<_}
+use native.Mathlib.Decide.{decLt}
 use native.Mathlib.Omega.{arith}
 use lib.Dec.{leb·suc-zero}
 use lib.IntN.{ℤ, pos, negsuc, natAbs}
@@ -15,6 +16,9 @@ use Rattle.tape.specs.declared.Sign.the-variants.{Plus, Minus}
 use Rattle.tape.specs.declared.Move.{Move}
 use Rattle.tape.specs.declared.Step.{Step}
 use Rattle.tape.specs.declared.Step.the-variants.{Double, Load, Add, Bad}
+use Rattle.laws.proofs.Integers.{up, dn, parts, diffs, ring}
+use Rattle.signed.specs.Levels.{Raised}
+use Rattle.tape.specs.Places.{Twice}
 use Rattle.tape.specs.Steps.{stepBy, stepOf, minus, wordOf, Coded, signOf, moveOf}
 
 -- ---- the step of a word
@@ -94,6 +98,23 @@ pub move-fits : (d : ℤ) → mag d < 128 → moveOf d .entry < 4096
 unfolding moveOf
 move-fits (pos n) h = omega arith
 move-fits (negsuc n) h = omega arith
+
+-- the word of its addition, as code finds it from the digit raised above nought
+raised-is : {level r : ℕ} (d : ℤ) → Raised level d r → r + dn d ≡ up d + level
+raised-is d h = let k = simp diffs at (rw (parts d) at (h .is)) in omega ring
+
+pub added-is : (d : ℤ) {r t : ℕ} → Raised 128 d r → Twice r t → d ≢ pos 0 → t / 2 ≡ wordOf (Add (moveOf d))
+unfolding moveOf up dn
+added-is (pos zero) h k n = absurd (n refl)
+added-is (pos (suc m)) h k n = let e = raised-is (pos (suc m)) h in omega (arith, k .plus (omega arith))
+added-is (negsuc m) h k n = let e = raised-is (negsuc m) h in omega (arith, k .minus (omega arith))
+
+pub twice-fits : {r t : ℕ} → r < 256 → Twice r t → t < 65536
+twice-fits {r} {t} l k = by (decLt r 128)
+  where
+    by : Dec (r < 128) → t < 65536
+    by (yes h) = omega (arith, k .minus h)
+    by (no h) = omega (arith, k .plus (omega arith))
 
 -- the words of a nonzero digit
 pub loads-is : (d : ℤ) → d ≢ pos 0 → loads d ≡ wordOf (Load (moveOf d)) ∷ []

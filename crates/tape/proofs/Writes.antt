@@ -2,13 +2,13 @@
 -- Assumes nothing.
 use mathlib.Core.Path.{_≡_, refl, sym, ap, _∙_, subst}
 use mathlib.Core.Logic.{_≢_}
-use mathlib.Core.List.{List, [], _∷_, _++_}
+use mathlib.Core.List.{List, [], _∷_, _++_, append-assoc}
 use Prim.Native.Nat.{ℕ, suc, _+_, _-_, _<_, _≤_}
 use native.Mathlib.Numerals.{add-one}
 use native.Mathlib.Omega.{arith}
-use lib.IntN.{ℤ, pos}
-use lib.ListN.{length, getD, take, drop, set, length-append, length-drop}
-use lib.Seq.{sets, sets-eq, drop-cons, drop-drop, take-append-seam, drop-append-add, drop-set-lt}
+use lib.IntN.{ℤ, ℤ-discrete, pos}
+use lib.ListN.{length, getD, take, drop, set, length-append, length-set}
+use lib.Seq.{sets, sets-eq, drop-cons, drop-drop, take-set-le, take-suc-set, drop-set-lt}
 use Rattle.meaning.specs.Digits.{nonzero, top}
 use Rattle.meaning.specs.Taping.{double, loads, adds, down, tapeOf}
 use Rattle.tape.specs.declared.Step.the-variants.{Load, Add}
@@ -18,66 +18,92 @@ use Rattle.tape.proofs.Steps.{loads-is, adds-is}
 use Rattle.forms.proofs.Strings.{nonzero-one, nonzero-none}
 use Rattle.tape.proofs.Lengths.{length-adds, tape-drop, at-top, tape-topless}
 
--- a run of stores behind a front that is written
-store-more : {A : Type 0} (xs ys l₀ l : List A) → l ≡ xs ++ drop (length xs) l₀ → length xs + length ys ≤ length l₀ → sets l (length xs) ys ≡ (xs ++ ys) ++ drop (length xs + length ys) l₀
-store-more xs ys l₀ l e h =
-    let n = length xs in
-    let long : length l ≡ length l₀ = ap length e ∙ simp (length-append, length-drop) (omega arith) in
-    sets-eq ys l n (omega arith) ∙ ap (λ t. (t ++ ys) ++ drop (n + length ys) l) (ap (take n) e ∙ take-append-seam xs (drop n l₀))
-    ∙ ap (λ t. (xs ++ ys) ++ t) (ap (drop (n + length ys)) e ∙ drop-append-add xs (drop n l₀) (length ys) ∙ drop-drop (length ys) n l₀)
-
--- ---- one place
+-- ---- place 0
 -- a 0 gives a double alone
-pub lower-zero : {d : ℤ} (at : ℕ) (words : List ℕ) {x : ℕ} → d ≡ pos 0 → x ≡ double → Lowered d at words (at + 1) (set words at x)
+pub lowest-zero : {d : ℤ} (at : ℕ) (words : List ℕ) {x : ℕ} → d ≡ pos 0 → x ≡ double → set words at x ≡ sets words at (double ∷ adds d)
 unfolding adds
-lower-zero at words z e =
-    record { next-is = omega (arith, nonzero-none z); words-are = ap (set words at) e ∙ ap (λ y. sets words at (double ∷ adds y)) (sym z) }
+lowest-zero at words z e = ap (set words at) e ∙ ap (λ y. sets words at (double ∷ adds y)) (sym z)
 
 -- another digit a double and an addition
-pub lower-digit : {d : ℤ} (at : ℕ) (words : List ℕ) {x y : ℕ} → d ≢ pos 0 → x ≡ double → y ≡ wordOf (Add (moveOf d)) → Lowered d at words (at + 2) (set (set words at x) (at + 1) y)
-lower-digit {d} at words n e f =
-    record {
-      next-is = omega (arith, nonzero-one d n);
-      words-are = rw (e, f, add-one) (ap (λ ys. sets words at (double ∷ ys)) (sym (adds-is d n)));
-    }
+pub lowest-digit : {d : ℤ} (at : ℕ) (words : List ℕ) {x y : ℕ} → d ≢ pos 0 → x ≡ double → y ≡ wordOf (Add (moveOf d)) → set (set words at x) (at + 1) y ≡ sets words at (double ∷ adds d)
+lowest-digit {d} at words n e f = rw (e, f, add-one) (ap (λ ys. sets words at (double ∷ ys)) (sym (adds-is d n)))
+
+-- ---- a place above it: what is then in front of the next index, and behind it
+module _ {d : ℤ} {at : ℕ} {words₀ : List ℕ} {next : ℕ} {words : List ℕ} (h : Lowered d at words₀ next words) (room : at + 1 < length words₀) where
+  lowered-length : length words ≡ length words₀
+  lowered-length = ap length (h .words-are) ∙ simp length-set
+
+  lowered-front : take next words ≡ take at words₀ ++ (double ∷ adds d)
+  unfolding adds
+  lowered-front = by (ℤ-discrete d (pos 0))
+    where
+      front : take (at + 1) (set words₀ at double) ≡ take at words₀ ++ (double ∷ [])
+      front = rw add-one (take-suc-set words₀ at double (omega arith))
+
+      by : Dec (d ≡ pos 0) → take next words ≡ take at words₀ ++ (double ∷ adds d)
+      by (yes z) =
+          let n : next ≡ at + 1 = omega (arith, h .next-is, nonzero-none z) in
+          ap (λ k. take k words) n ∙ ap (take (at + 1)) (h .words-are) ∙ take-set-le (at + 1) (set words₀ at double) (at + 1) (h .after) (omega arith)
+          ∙ front ∙ ap (λ y. take at words₀ ++ (double ∷ adds y)) (sym z)
+      by (no n) =
+          let m : next ≡ suc (at + 1) = omega (arith, h .next-is, nonzero-one d n) in
+          ap (λ k. take k words) m ∙ ap (take (suc (at + 1))) (h .words-are)
+          ∙ take-suc-set (set words₀ at double) (at + 1) (h .after) (omega (arith, length-set words₀ at double))
+          ∙ ap (λ xs. xs ++ (h .after ∷ [])) front ∙ append-assoc (take at words₀) (double ∷ []) (h .after ∷ [])
+          ∙ ap (λ ys. take at words₀ ++ (double ∷ ys)) (sym (h .after-is n))
+
+  lowered-back : drop (next + 1) words ≡ drop (next + 1) words₀
+  lowered-back =
+      ap (drop (next + 1)) (h .words-are)
+      ∙ drop-set-lt (next + 1) (set words₀ at double) (at + 1) (h .after) (omega (arith, h .next-is))
+      ∙ drop-set-lt (next + 1) words₀ at double (omega (arith, h .next-is))
 
 -- ---- all places
--- the words of the places from i on stand in front of what was lent, `at` of them
+-- the words of the places from i on stand in front, `at` of them; one word after them means nothing, and behind it all is as it was lent
 pub record Laid (ds : List ℤ) (words₀ words : List ℕ) (i at : ℕ) : Type 0 where
   pub within : i ≤ length ds
   pub some : 0 < at
   pub count : length (tapeOf (drop i ds)) ≡ at
-  pub words-are : words ≡ tapeOf (drop i ds) ++ drop at words₀
+  pub long : length words ≡ length words₀
+  pub front : take at words ≡ tapeOf (drop i ds)
+  pub back : drop (at + 1) words ≡ drop (at + 1) words₀
 
 module _ (ds : List ℤ) (words₀ : List ℕ) (room : length (tapeOf ds) ≤ length words₀) where
-  -- the buffer keeps its length
-  pub laid-length : {words : List ℕ} {i at : ℕ} → Laid ds words₀ words i at → length words ≡ length words₀
-  laid-length {words} {i} {at} h =
-      ap length (h .words-are) ∙ length-append (tapeOf (drop i ds)) (drop at words₀) ∙ omega (arith, h .count, length-drop at words₀, tape-drop i ds)
+  module _ (t : ℕ) (d : ℤ) (e : top ds ≡ suc t) (f : d ≡ getD ds t (pos 0)) where
+    -- the load
+    tape-load : tapeOf (drop t ds) ≡ wordOf (Load (moveOf d)) ∷ []
+    tape-load = let h = at-top ds t e in h .load ∙ ap loads (sym f) ∙ loads-is d (λ z. h .some (sym f ∙ z))
 
-  -- the load
-  pub laid-load : (t : ℕ) (d : ℤ) → top ds ≡ suc t → d ≡ getD ds t (pos 0) → Laid ds words₀ (set words₀ 0 (wordOf (Load (moveOf d)))) t 1
-  laid-load t d e f =
-      let x = wordOf (Load (moveOf d)) in
-      let h = at-top ds t e in
-      let tape : tapeOf (drop t ds) ≡ x ∷ [] = h .load ∙ ap loads (sym f) ∙ loads-is d (λ z. h .some (sym f ∙ z)) in
-      record {
-        within = omega (arith, h .within);
-        some = omega arith;
-        count = ap length tape;
-        words-are =
-            store-more [] (x ∷ []) words₀ words₀ refl (omega (arith, ap length tape, tape-drop t ds))
-            ∙ ap (λ xs. xs ++ drop 1 words₀) (sym tape);
-      }
+    some-room : 1 ≤ length words₀
+    some-room = omega (arith, ap length tape-load, tape-drop t ds)
 
-  -- the load's store is no part of what is left of the buffer
+    pub laid-load : Laid ds words₀ (set words₀ 0 (wordOf (Load (moveOf d)))) t 1
+    laid-load =
+        record {
+          within = omega (arith, at-top ds t e .within);
+          some = omega arith;
+          count = ap length tape-load;
+          long = length-set words₀ 0 _;
+          front = take-suc-set words₀ 0 _ some-room ∙ sym tape-load;
+          back = drop-set-lt 2 words₀ 0 _ (omega arith);
+        }
+
+    -- which is all where the top is place 0
+    pub laid-only : t ≡ 0 → set words₀ 0 (wordOf (Load (moveOf d))) ≡ tapeOf ds ++ drop (length (tapeOf ds)) words₀
+    laid-only z =
+        let tape : tapeOf ds ≡ wordOf (Load (moveOf d)) ∷ [] = ap (λ k. tapeOf (drop k ds)) (sym z) ∙ tape-load in
+        sets-eq (wordOf (Load (moveOf d)) ∷ []) words₀ 0 some-room ∙ ap (λ xs. xs ++ drop (length xs) words₀) (sym tape)
+
+  -- the load's store is no part of what is behind
   pub laid-after : (x : ℕ) {words : List ℕ} {i at : ℕ} → Laid ds words₀ words i at → Laid ds (set words₀ 0 x) words i at
   laid-after x {words} {i} {at} h =
       record {
         within = h .within;
         some = h .some;
         count = h .count;
-        words-are = h .words-are ∙ ap (λ t. tapeOf (drop i ds) ++ t) (sym (drop-set-lt at words₀ 0 x (h .some)));
+        long = h .long ∙ sym (length-set words₀ 0 x);
+        front = h .front;
+        back = h .back ∙ sym (drop-set-lt (at + 1) words₀ 0 x (omega arith));
       }
 
   -- the words of the place under i
@@ -102,31 +128,46 @@ module _ (ds : List ℤ) (words₀ : List ℕ) (room : length (tapeOf ds) ≤ le
 
     -- they have room
     pub laid-room : at + 1 + nonzero d ≤ length words
-    laid-room = omega (arith, laid-length h, length-is, tape-drop (i - 1) ds)
+    laid-room = omega (arith, h .long, length-is, tape-drop (i - 1) ds)
 
-    -- and stand behind the others
-    pub laid-down : (next : ℕ) (words′ : List ℕ) → Lowered d at words next words′ → Laid ds words₀ words′ (i - 1) next
-    laid-down next words′ k =
-        let xs = tapeOf (drop i ds) in
-        let ys = double ∷ adds d in
-        let next-is : length xs + length ys ≡ next = omega (arith, h .count, k .next-is, length-adds d) in
+    -- and so has the double of the place after that
+    pub laid-next : 1 < i → at + 1 < length words
+    laid-next l =
+        let j = i - 1 - 1 in
+        let n : i - 1 ≡ suc j = omega arith in
+        let same = ap (λ k. length (tapeOf (drop k ds))) n in
+        let more = ap length (below j (getD ds j (pos 0)) (omega (arith, h .within)) refl (omega (arith, length-is))) in
+        omega (arith, more, length-append (tapeOf (drop (suc j) ds)) (double ∷ adds (getD ds j (pos 0))), length-is, h .long, tape-drop j ds)
+
+    -- what is behind them stays
+    behind : (n : ℕ) → at + 1 ≤ n → drop n words ≡ drop n words₀
+    behind n l =
+        let m = n - (at + 1) in
+        let k : n ≡ at + 1 + m = omega arith in
+        ap (λ j. drop j words) k ∙ sym (drop-drop m (at + 1) words) ∙ ap (drop m) (h .back) ∙ drop-drop m (at + 1) words₀ ∙ ap (λ j. drop j words₀) (sym k)
+
+    pub laid-down : (next : ℕ) (words′ : List ℕ) → at + 1 < length words → Lowered d at words next words′ → Laid ds words₀ words′ (i - 1) next
+    laid-down next words′ r k =
         record {
           within = omega (arith, h .within);
           some = omega (arith, k .next-is);
           count = length-is ∙ sym (k .next-is);
-          words-are =
-              k .words-are ∙ ap (λ n. sets words n ys) (sym (h .count))
-              ∙ store-more xs ys words₀ words (h .words-are ∙ ap (λ n. xs ++ drop n words₀) (sym (h .count))) (omega (arith, h .count, laid-length h, laid-room, length-adds d))
-              ∙ ap (λ n. (xs ++ ys) ++ drop n words₀) next-is
-              ∙ ap (λ zs. zs ++ drop next words₀) (sym tape-is);
+          long = lowered-length k r ∙ h .long;
+          front = lowered-front k r ∙ ap (λ xs. xs ++ (double ∷ adds d)) (h .front) ∙ sym tape-is;
+          back = lowered-back k r ∙ behind (next + 1) (omega (arith, k .next-is));
         }
 
-  -- at place 0 all are written
-  pub laid-all : (x : ℕ) {words : List ℕ} {i at : ℕ} → Laid ds (set words₀ 0 x) words i at → i ≡ 0 → words ≡ tapeOf ds ++ drop (length (tapeOf ds)) words₀
-  laid-all x {words} {i} {at} h z =
-      let n : length (tapeOf ds) ≡ at = ap (λ k. length (tapeOf (drop k ds))) (sym z) ∙ h .count in
-      h .words-are ∙ ap (λ k. tapeOf (drop k ds) ++ drop at (set words₀ 0 x)) z
-      ∙ ap (λ t. tapeOf ds ++ t) (drop-set-lt at words₀ 0 x (h .some) ∙ ap (λ k. drop k words₀) (sym n))
+    -- at place 0 all are written
+    pub laid-all : i ≡ 1 → sets words at (double ∷ adds d) ≡ tapeOf ds ++ drop (length (tapeOf ds)) words₀
+    laid-all z =
+        let ys = double ∷ adds d in
+        let n = at + length ys in
+        let none : i - 1 ≡ 0 = omega arith in
+        let all : tapeOf (drop (i - 1) ds) ≡ tapeOf ds = ap (λ k. tapeOf (drop k ds)) none in
+        let size : n ≡ length (tapeOf ds) = omega (arith, ap length all, length-is, length-adds d) in
+        sets-eq ys words at (omega (arith, laid-room, length-adds d))
+        ∙ ap (λ xs. (xs ++ ys) ++ drop n words) (h .front) ∙ ap (λ xs. xs ++ drop n words) (sym tape-is ∙ all)
+        ∙ ap (λ xs. tapeOf ds ++ xs) (behind n (omega arith) ∙ ap (λ k. drop k words₀) size)
 
 -- a string with no top has no words
 pub laid-none : (ds : List ℤ) (words : List ℕ) → top ds ≡ 0 → words ≡ tapeOf ds ++ drop (length (tapeOf ds)) words

@@ -1,14 +1,22 @@
 -- What one place of a string adds to the words.
 -- Assumes nothing.
 use mathlib.Core.Path.{_≡_}
-use mathlib.Core.List.{List, _∷_}
-use Prim.Native.Nat.{ℕ, _+_}
-use lib.IntN.{ℤ}
-use lib.Seq.{sets}
+use mathlib.Core.Logic.{_≢_}
+use mathlib.Core.List.{List, [], _∷_}
+use Prim.Native.Nat.{ℕ, _+_, _*_, _<_, _≤_}
+use lib.IntN.{ℤ, pos}
+use lib.ListN.{set}
 use Rattle.meaning.specs.Digits.{nonzero}
 use Rattle.meaning.specs.Taping.{double, adds}
 
--- a double and the digit's addition are stored from index `at` on, and `next` is the index after them
+-- t is twice the word of an addition, by the digit raised by 128 to r
+pub record Twice (r t : ℕ) : Type 0 where
+  pub minus : r < 128 → t + r ≡ 2 * (4 * 4096) + 127
+  pub plus : 128 ≤ r → t + 129 ≡ 2 * (3 * 4096) + r
+
+-- a double is stored at index `at` and a word after it, which is the digit's addition where it has one; `next` is the index after them
 pub record Lowered (d : ℤ) (at : ℕ) (words₀ : List ℕ) (next : ℕ) (words : List ℕ) : Type 0 where
   pub next-is : next ≡ at + 1 + nonzero d
-  pub words-are : words ≡ sets words₀ at (double ∷ adds d)
+  pub after : ℕ
+  pub after-is : d ≢ pos 0 → adds d ≡ after ∷ []
+  pub words-are : words ≡ set (set words₀ at double) (at + 1) after

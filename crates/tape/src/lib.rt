@@ -1,14 +1,15 @@
 // The step tape of a digit string: a word and the step that it decodes to, and the call `tape`.
 ghost use mathlib.Core.Path.{_≡_};
 ghost use mathlib.Core.Logic.{_≢_};
-ghost use mathlib.Core.List.{_++_};
+ghost use mathlib.Core.List.{_∷_, _++_};
 ghost use Prim.Native.Nat.{_+_, _-_, _≤_, _<_};
 ghost use lib.IntN.{pos};
 ghost use lib.ListN.{length, drop};
+ghost use lib.Seq.{sets};
 ghost use Rattle.meaning.specs.Digits.{nonzero, top};
-ghost use Rattle.meaning.specs.Taping.{word, tapeOf, Tape};
+ghost use Rattle.meaning.specs.Taping.{word, double, adds, tapeOf, Tape};
 ghost use Rattle.tape.specs.Steps.{minus, stepOf, wordOf, Coded, moveOf};
-ghost use Rattle.tape.specs.Places.{Lowered};
+ghost use Rattle.tape.specs.Places.{Twice, Lowered};
 use digits::Found;
 use width::Known;
 use width::Width;
@@ -107,17 +108,50 @@ fn move_of(digit: i8) -> Move
 }
 
 // ---- the call
-// The words of one place further down, from index `at` on. Gives the index after them.
+// Twice the first word that adds, and twice the first that subtracts.
+const ADDS: u32 = 2 * 3 * 4096;
+
+const SUBTRACTS: u32 = 2 * 4 * 4096;
+
+// Twice the word of an addition, by its digit raised by 128: halved once, it serves both signs.
+fn twice(raised: u32) -> u32
+    requires { ⌜ raised < 256 ⌝ }
+    ensures { λ r. ⌜ Twice raised r ⌝ }
+{
+    if raised < 128 {
+        SUBTRACTS + 127 - raised
+    } else {
+        ADDS + raised - 129
+    }
+}
+
+// The word of a nonzero digit's addition. There is one for 0 too, which means nothing: so a machine has no branch to guess.
+fn added(digit: i8) -> u16
+    ensures { λ r. ⌜ (digit ≢ pos 0 → r ≡ wordOf (Step.Add (moveOf digit))) ⌝ }
+{
+    (twice(signed::raised(digit, 128)) / 2) as u16
+}
+
+// The words of one place further down, from index `at` on. Gives the index after them. After the double of a 0 stands a word that means nothing:
+// there the next place's double is written.
 fn lower(digit: i8, at: usize, words: &mut [u16]) -> usize
-    requires { ⌜ at + 1 + nonzero digit ≤ length (now words) ⌝ }
+    requires { ⌜ at + 1 < length (now words) ⌝ }
     ensures { λ r. ⌜ Lowered digit at (now (words .entry)) r (now (words .exit)) ⌝ }
 {
     words[at] = encode(Step::Double);
-    if digit == 0 {
-        return at + 1;
+    words[at + 1] = added(digit);
+    at + 1 + (digits::counted(digit) as usize)
+}
+
+// The words of place 0, after which nothing is written.
+fn lowest(digit: i8, at: usize, words: &mut [u16])
+    requires { ⌜ at + 1 + nonzero digit ≤ length (now words) ⌝ }
+    ensures { λ _. ⌜ now (words .exit) ≡ sets (now (words .entry)) at (double ∷ adds digit) ⌝ }
+{
+    words[at] = encode(Step::Double);
+    if digit != 0 {
+        words[at + 1] = added(digit);
     }
-    words[at + 1] = encode(Step::Add(move_of(digit)));
-    at + 2
 }
 
 // Writes the words of a string whose top is `high`, from there down.
@@ -131,11 +165,15 @@ fn write(digits: &[i8], high: usize, words: &mut [u16])
     }
     let mut i = high - 1;
     words[0] = encode(Step::Load(move_of(digits[i])));
+    if i == 0 {
+        return;
+    }
     let mut at = 1;
-    while 0 < i {
+    while 1 < i {
         i -= 1;
         at = lower(digits[i], at, words);
     }
+    lowest(digits[0], at, words);
 }
 
 // What is left of n without k, and 0 if k is more.
