@@ -15,7 +15,7 @@ use Rattle.meaning.specs.Wmof.{windowAt}
 use Rattle.meaning.specs.Reading.{Holds}
 use Rattle.reader.specs.declared.State.{State}
 use Rattle.reader.specs.declared.Taken.{Taken}
-use Rattle.reader.specs.States.{starting, opened, openable, taken, after, After}
+use Rattle.reader.specs.States.{starting, opened, openable, fresh, taken, after, After}
 use Rattle.reader.proofs.Starts.{held-short}
 
 -- the places to come, a window's spot and its floor are at most B
@@ -55,7 +55,7 @@ module _ (B : ℕ) (most : mostPlaces ≤ B) where
       omega (arith, ltb→lt 0 m some, leb→le m mostPlaces few)
 
   pub takes-few : (s : List ℕ) (m w : ℕ) (d : ℤ) (p f : ℕ) → Few B m p f → let t = taken s m w d p f in Few B (t .place) (t .spot) (t .floor)
-  unfolding taken
+  unfolding fresh taken
   takes-few s m w d p f q =
       let pass : Few B (m - 1) p f = record { place-le = omega (arith, q .place-le); spot-le = q .spot-le; floor-le = q .floor-le } in
       let end : Few B 0 p f = record { place-le = omega arith; spot-le = q .spot-le; floor-le = q .floor-le } in

@@ -13,7 +13,7 @@ use Rattle.meaning.specs.Windows.{oddPart}
 use Rattle.meaning.specs.Wmof.{windowAt, spot}
 use Rattle.width.specs.Widths.{Lawful}
 use Rattle.reader.specs.declared.Taken.{Taken}
-use Rattle.reader.specs.States.{passed, opened, ended, taken}
+use Rattle.reader.specs.States.{passed, opened, ended, fresh, taken}
 
 -- ---- where no window is open
 module _ (w N i : ℕ) where
@@ -28,30 +28,43 @@ module _ (w N i : ℕ) where
   unfolding opened
   opened-some t d e k l = t ∙ rw (e, k, l) (simp (ne-eqb _ _ d))
 
--- ---- a call
 module _ (s : List ℕ) (m w : ℕ) (d : ℤ) (p f : ℕ) where
+  -- one can open
+  pub fresh-opened : 0 < m → m ≤ mostPlaces → Lawful w → opened w (number s) (m - 1) ≡ fresh s m w d p f
+  unfolding fresh
+  fresh-opened a b l = simp (lt-ltb _ _ a, le-leb _ _ b, le-leb _ _ (l .0), le-leb _ _ (l .1))
+
+  -- no place to come
+  pub fresh-none : m ≤ 0 → ended d p f ≡ fresh s m w d p f
+  unfolding fresh
+  fresh-none h = simp (le-ltb 0 m h)
+
+  -- more than any string has
+  pub fresh-over : mostPlaces < m → ended d p f ≡ fresh s m w d p f
+  unfolding fresh
+  fresh-over b = simp (lt-ltb 0 m (omega arith), lt-leb _ _ b)
+
+  -- no width
+  pub fresh-bad : 0 < m → m ≤ mostPlaces → (w < leastWidth) ⊎ (mostWidth < w) → ended d p f ≡ fresh s m w d p f
+  unfolding fresh
+  fresh-bad a b (inl l) = simp (lt-ltb _ _ a, le-leb _ _ b, lt-leb _ _ l)
+  fresh-bad a b (inr l) = simp (lt-ltb _ _ a, le-leb _ _ b, le-leb leastWidth w (omega arith), lt-leb _ _ l)
+
+  -- ---- a call
   -- inside a window
   pub takes-inside : f < m → passed (m - 1) d p f ≡ taken s m w d p f
   unfolding taken
   takes-inside h = simp (lt-ltb _ _ h)
 
+  -- where none is open
+  pub takes-fresh : m ≤ f → fresh s m w d p f ≡ taken s m w d p f
+  unfolding taken
+  takes-fresh h = simp (le-ltb _ _ h)
+
   -- where one can open
   pub takes-opened : m ≤ f → 0 < m → m ≤ mostPlaces → Lawful w → opened w (number s) (m - 1) ≡ taken s m w d p f
-  unfolding taken
-  takes-opened h a b l = simp (le-ltb _ _ h, lt-ltb _ _ a, le-leb _ _ b, le-leb _ _ (l .0), le-leb _ _ (l .1))
+  takes-opened h a b l = fresh-opened a b l ∙ takes-fresh h
 
   -- no place to come
   pub takes-none : m ≤ 0 → ended d p f ≡ taken s m w d p f
-  unfolding taken
-  takes-none h = simp (le-ltb f m (omega arith), le-ltb 0 m h)
-
-  -- more than any string has
-  pub takes-over : m ≤ f → mostPlaces < m → ended d p f ≡ taken s m w d p f
-  unfolding taken
-  takes-over h b = simp (le-ltb _ _ h, lt-ltb 0 m (omega arith), lt-leb _ _ b)
-
-  -- no width
-  pub takes-bad : m ≤ f → 0 < m → m ≤ mostPlaces → (w < leastWidth) ⊎ (mostWidth < w) → ended d p f ≡ taken s m w d p f
-  unfolding taken
-  takes-bad h a b (inl l) = simp (le-ltb _ _ h, lt-ltb _ _ a, le-leb _ _ b, lt-leb _ _ l)
-  takes-bad h a b (inr l) = simp (le-ltb _ _ h, lt-ltb _ _ a, le-leb _ _ b, le-leb leastWidth w (omega arith), lt-leb _ _ l)
+  takes-none h = fresh-none h ∙ takes-fresh (omega arith)

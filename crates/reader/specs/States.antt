@@ -50,9 +50,13 @@ openable m w = ltb 0 m && leb m mostPlaces && leb leastWidth w && leb w mostWidt
 abbrev pub ended : ℤ → (p f : ℕ) → Taken
 ended d p f = record { next = Done; place = 0; pending = d; spot = p; floor = f }
 
--- with m places to come: inside a window; else where one can open; else done
+-- with m places to come and no window open: where one can open; else done
+unfoldable pub fresh : List ℕ → (m w : ℕ) → ℤ → (p f : ℕ) → Taken
+fresh s m w d p f = cond (openable m w) (opened w (number s) (m - 1)) (ended d p f)
+
+-- with m places to come: inside a window; else where none is open
 unfoldable pub taken : List ℕ → (m w : ℕ) → ℤ → (p f : ℕ) → Taken
-taken s m w d p f = cond (ltb f m) (passed (m - 1) d p f) (cond (openable m w) (opened w (number s) (m - 1)) (ended d p f))
+taken s m w d p f = cond (ltb f m) (passed (m - 1) d p f) (fresh s m w d p f)
 
 -- what a call takes from a state
 abbrev pub call : List ℕ → State → Taken

@@ -6,7 +6,7 @@ ghost use Prim.Native.Nat.{_-_, _≤_, _<_, min};
 ghost use Rattle.meaning.specs.Scalars.{number};
 ghost use Rattle.meaning.specs.Digits.{mostPlaces};
 ghost use Rattle.width.specs.Widths.{Lawful};
-ghost use Rattle.reader.specs.States.{digitAt, ready, passed, opened, taken, call, moved, After};
+ghost use Rattle.reader.specs.States.{digitAt, ready, passed, opened, fresh, taken, call, moved, After};
 ghost use Rattle.reader.specs.Calls.{Made, Called, Answered};
 use width::Known;
 use width::Width;
@@ -116,13 +116,10 @@ fn opening(w: Width, scalar: &[u8], place: usize) -> Taken
     pass(place, 0, 0, place - 1)
 }
 
-// One call. A state that was made up elsewhere is done where no window can open.
-pub fn step(scalar: &[u8], place: usize, width: u8, pending: i8, spot: usize, floor: usize) -> Taken
-    ensures { λ r. ⌜ r ≡ taken (now (scalar .entry)) place width pending spot floor ⌝ }
+// Where no window is open. A state that was made up elsewhere is done where none can open.
+fn fresh(scalar: &[u8], place: usize, width: u8, pending: i8, spot: usize, floor: usize) -> Taken
+    ensures { λ r. ⌜ r ≡ fresh (now (scalar .entry)) place width pending spot floor ⌝ }
 {
-    if floor < place {
-        return pass(place, pending, spot, floor);
-    }
     if 0 < place {
         if place <= Width::MOST_PLACES {
             if let Known::As(w) = Width::known(width) {
@@ -139,11 +136,24 @@ pub fn step(scalar: &[u8], place: usize, width: u8, pending: i8, spot: usize, fl
     }
 }
 
-// One call on a state.
+// One call.
+pub fn step(scalar: &[u8], place: usize, width: u8, pending: i8, spot: usize, floor: usize) -> Taken
+    ensures { λ r. ⌜ r ≡ taken (now (scalar .entry)) place width pending spot floor ⌝ }
+{
+    if floor < place {
+        return pass(place, pending, spot, floor);
+    }
+    fresh(scalar, place, width, pending, spot, floor)
+}
+
+// One call on a state. It is not made through `step`: with two callers `fresh` is compiled apart, and a call inside a window stays short.
 pub fn call(scalar: &[u8], state: State) -> Taken
     ensures { λ r. ⌜ r ≡ call (now (scalar .entry)) state ⌝ }
 {
-    step(
+    if state.floor < state.place {
+        return pass(state.place, state.pending, state.spot, state.floor);
+    }
+    fresh(
         scalar,
         state.place,
         state.width,

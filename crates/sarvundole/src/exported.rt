@@ -236,7 +236,14 @@ pub extern "C" fn sarvundole_reader_next(scalar: &[u8], reader: Reader) -> Stepp
     ensures { λ r. ⌜ Steps (now (scalar .entry)) (stateOf reader) (stateOf (r .reader)) (r .given) (r .digit) ⌝ }
 {
     let before = state(reader);
-    let taken = reader::call(scalar, before);
+    let taken = reader::step(
+        scalar,
+        before.place,
+        before.width,
+        before.pending,
+        before.spot,
+        before.floor,
+    );
     let after = kept(reader::moved(before, taken));
     let next = taken.next;
     let told = told(next);

@@ -1,16 +1,34 @@
--- `reader::call` meets its contract: the pending digit is read back from its byte. Assumes nothing.
+-- `reader::call` meets its contract, as `step` does; the pending digit is read back from its byte. Assumes nothing.
+use mathlib.Core.Path.{_∙_}
 use borrow.Author.Needs.{needs, sfits-of}
+use denote.Ref.{now}
 use mir.Syntax.{w8}
 use mir.Facts.{toZ-ofZ}
+use Rattle.reader.proofs.Takes.{takes-inside, takes-fresh}
 use Rattle.reader.proofs.call.Statement.{statement}
 use Rattle.reader.proofs.call.Tie as tie
 
-step-requires : tie.Need-step-requires
-step-requires c κs = search needs
+pass-requires : tie.Need-pass-requires
+pass-requires c κs = search needs
 
 returns : tie.Need-returns
 returns c =
-    rw (toZ-ofZ {w = w8} {z = c .before .before .before .args .state .pending} (sfits-of (c .before .struct-told .given .1 .1 .0 .1))) at (c .step .ensures)
+    let i = c .before .before in
+    let a = i .before .before .before .args in
+    let q = a .state in
+    rw (toZ-ofZ {w = w8} {z = q .pending} (sfits-of (c .before .struct-told .given .1 .1 .0 .1))) at (c .pass .ensures)
+    ∙ takes-inside (now (a .scalar)) (q .place) (q .width) (q .pending) (q .spot) (q .floor) (i .if1 .taken)
+
+fresh-requires : tie.Need-fresh-requires
+fresh-requires c κs = search needs
+
+returns-2 : tie.Need-returns-2
+returns-2 c =
+    let i = c .before .before in
+    let a = i .before .before .before .args in
+    let q = a .state in
+    rw (toZ-ofZ {w = w8} {z = q .pending} (sfits-of (c .before .struct-told2 .given .1 .1 .0 .1))) at (c .fresh .ensures)
+    ∙ takes-fresh (now (a .scalar)) (q .place) (q .width) (q .pending) (q .spot) (q .floor) (i .if1 .left)
 
 pub call-spec : {M : Type 1} → statement M
-call-spec = tie.close (tie.spec step-requires returns)
+call-spec = tie.close (tie.spec pass-requires returns fresh-requires returns-2)
