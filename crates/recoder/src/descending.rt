@@ -8,11 +8,14 @@ ghost use Rattle.meaning.specs.Scalars.{number, bitCount, mostBytes};
 ghost use Rattle.meaning.specs.Digits.{mostPlaces};
 ghost use Rattle.meaning.specs.Recoding.{markWords, marksOf};
 ghost use Rattle.width.specs.Widths.{Lawful};
+ghost use Rattle.windows.specs.Openings.{Placed};
 ghost use Rattle.recoder.specs.Sweeps.{Clear, Swept, Turns, Settled, Turned};
 use crate::opened;
 use crate::places;
+use rows::Window;
 use scalar::STRETCH;
 use width::Width;
+use windows::opening::Place;
 
 // The lowest place from `floor` up whose window lies in one stretch with the window of the highest place that is left.
 fn lowest_place(w: Width, left: usize, floor: usize) -> usize
@@ -21,7 +24,7 @@ fn lowest_place(w: Width, left: usize, floor: usize) -> usize
     ensures { λ r. ⌜ (floor ≤ r) × (r < left) × (left + w .bits ≤ r + 56) ⌝ }
 {
     let most = STRETCH - (w.bits() as usize);
-    if left < floor + most {
+    if left - floor < most {
         floor
     } else {
         left - most
@@ -36,6 +39,19 @@ fn window(w: Width, x: u64, at: u32) -> u32
 {
     let span = w.bits() + 1;
     ((x >> at) % (1u64 << span)) as u32
+}
+
+// Where the digit of a window that opens at place i stands. It is `windows::opening::placed` by what the loop has at hand, which keeps the stack small.
+fn placed(tail: u32, window: Window, i: usize) -> Place
+    requires { ⌜ (i < mostPlaces) × (window .twos ≤ tail) × (tail ≤ i + window .twos) ⌝ }
+    ensures { λ r. ⌜ Placed (tail + 1) window (i + 1) r ⌝ }
+{
+    let span = tail as usize;
+    Place {
+        spot: i + (window.twos as usize) - span,
+        unit: window.unit,
+        left: windows::opening::under(i, span),
+    }
 }
 
 fn smaller(a: usize, b: usize) -> usize
@@ -71,11 +87,7 @@ fn advance(
         let at = opened::highest(tail, opens);
         opens = opened::below(opens, at);
         let bits = window(w, x, at);
-        let place = windows::opening::placed(
-            w,
-            windows::work_out(w, bits, 0),
-            lowest + (at as usize) + 1,
-        );
+        let place = placed(tail, windows::work_out(w, bits, 0), lowest + (at as usize));
         places::put(digits, marks, place.spot, place.unit);
         left = place.left;
     }

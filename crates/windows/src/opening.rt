@@ -15,7 +15,7 @@ pub struct Place {
 }
 
 // The places left under a window of `span` places; the last one may have fewer.
-fn under(left: usize, span: usize) -> usize
+pub fn under(left: usize, span: usize) -> usize
     ensures { λ r. ⌜ r ≡ left - span ⌝ }
 {
     if left < span { 0 } else { left - span }

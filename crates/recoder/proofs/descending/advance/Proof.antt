@@ -13,6 +13,7 @@ use Rattle.meaning.specs.Recoding.{marksOf}
 use Rattle.meaning.specs.Windows.{windowBits, twos, oddPart}
 use Rattle.meaning.specs.Wmof.{windowAt}
 use Rattle.forms.proofs.DigitSets.{digit-some}
+use Rattle.windows.specs.Openings.{Placed}
 use Rattle.windows.specs.Parts.{Parts}
 use Rattle.windows.proofs.Opened.{opened, opened-lt, opened-at, worked, Puts, puts}
 use Rattle.recoder.specs.Sweeps.{Highest, openings}
@@ -104,7 +105,8 @@ digit : (c : tie.After-placed Inv-loop μ-loop)
 digit c =
     let o = c .before .before in
     let a = start (turn o) .args in
-    puts (at o) (windowAt (a .w .bits) (number (now (a .s))) (at o)) (omega arith) (found (c .before)) (c .placed .ensures)
+    let e : width (turn o) - 1 + 1 ≡ a .w .bits = omega (arith, width-is (turn o), two (turn o)) in
+    puts (at o) (windowAt (a .w .bits) (number (now (a .s))) (at o)) (omega arith) (found (c .before)) (subst (λ w. Placed w (c .before .work-out .result) (at o + 1) (c .placed .result)) e (c .placed .ensures))
 
 -- is put
 stored : (c : tie.After-put Inv-loop μ-loop)
@@ -163,15 +165,12 @@ cast-placed c = record { fits = omega (arith, top (c .before) .few) }
 add-placed : tie.Need-add-placed Inv-loop μ-loop
 add-placed c = record { fits = omega (arith, under (c .before), few (turn (c .before))) }
 
-add-placed-2 : tie.Need-add-placed-2 Inv-loop μ-loop
-add-placed-2 c = record { fits = omega (arith, under (c .before), few (turn (c .before))) }
-
 placed-requires : tie.Need-placed-requires Inv-loop μ-loop
 placed-requires c κs =
     let o = c .before in
     let l = turn o in
     let f = found c in
-    (start l .pre .0, omega (arith, under o, few l, f .twos-is, f .few, opened-at (start l .args .w .bits) (number (now (start l .args .s))) (at o) (two l) (differ o) .over))
+    omega (arith, under o, few l, width-is l, f .twos-is, f .few, opened-at (start l .args .w .bits) (number (now (start l .args .s))) (at o) (two l) (differ o) .over)
 
 put-requires : tie.Need-put-requires Inv-loop μ-loop
 put-requires c κs =
@@ -219,4 +218,4 @@ returns c =
 pub advance-spec : {M : Type 1} → statement M
 advance-spec =
     tie.close
-    (tie.spec Inv-loop μ-loop bits-requires sub-tail lowest-place-requires stretch-under-requires sub-places places-requires loop-holds highest-requires below-requires window-requires work-out-requires cast-placed add-placed add-placed-2 placed-requires put-requires loop-less loop-again smaller-requires same-length same-length-2 returns)
+    (tie.spec Inv-loop μ-loop bits-requires sub-tail lowest-place-requires stretch-under-requires sub-places places-requires loop-holds highest-requires below-requires window-requires work-out-requires cast-placed add-placed placed-requires put-requires loop-less loop-again smaller-requires same-length same-length-2 returns)
