@@ -1,9 +1,11 @@
 -- `recoder::wnaf::take` meets its contract. Assumes nothing.
+use mathlib.Core.Path.{refl, _∙_}
 use Prim.Native.Nat.{_+_, _/_, _^_}
 use native.Mathlib.Nat.{mod-lt}
 use native.Mathlib.Omega.{arith}
-use borrow.Author.Needs.{needs}
+use borrow.Author.Needs.{needs, sfits-of}
 use lib.Pow.{shr-le}
+use mir.Facts.{toZ-ofZ}
 use Rattle.recoder.proofs.wnaf.take.Statement.{statement}
 use Rattle.recoder.proofs.wnaf.take.Tie as tie
 
@@ -32,7 +34,8 @@ div-t9 : tie.Need-div-t9
 div-t9 c = search needs
 
 returns : tie.Need-returns
-returns c = search needs
+returns c =
+    record { digit-is = toZ-ofZ (sfits-of (c .before .lowered .ok)) ∙ c .before .lowered .ensures; carry-is = c .carried .ensures; rest-is = refl }
 
 pub take-spec : {M : Type 1} → statement M
 take-spec = tie.close (tie.spec shr-raised add-raised mul-rest rem-rest lowered-requires carried-requires mul-t6 div-t9 returns)
