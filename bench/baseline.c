@@ -1,10 +1,14 @@
-/* The baseline: every call of the library as plain C, written for speed by hand and proved by nothing. */
+/* The baseline: every call of the library as plain C, written for speed by hand and proved by nothing. It goes about each call as the library does, so that
+ * the two differ in their code and not in their method. */
 #include "baseline.h"
 
 #include <string.h>
 
 static int bad_width(uint8_t width) { return width < SARVUNDOLE_LEAST_WIDTH || width > SARVUNDOLE_MOST_WIDTH; }
 
+static size_t smaller(size_t a, size_t b) { return a < b ? a : b; }
+
+/* ---- the scalar's bits */
 /* Byte q from the low end, 0 above the scalar. */
 static unsigned byte_at(const uint8_t *s, size_t bytes, size_t q) { return q < bytes ? s[bytes - 1 - q] : 0; }
 
@@ -19,77 +23,139 @@ static unsigned window_at(const uint8_t *s, size_t bytes, size_t i, unsigned w) 
     return i >= w ? bits_at(s, bytes, i - w, w + 1) : bits_at(s, bytes, 0, (unsigned)i + 1) << (w - i);
 }
 
-/* ---- recode */
+/* Eight bytes of the list as one number, by one load. */
+static uint64_t load(const uint8_t *at) {
+    uint64_t x;
+    memcpy(&x, at, sizeof x);
+    return __builtin_bswap64(x);
+}
+
+/* Eight bytes from byte q up, counted from the low end. Where the scalar ends among them, its highest eight have the rest, if it has so many. */
+static uint64_t word_at(const uint8_t *s, size_t bytes, size_t q) {
+    if (q + 8 <= bytes) return load(s + bytes - 8 - q);
+    if (q >= bytes) return 0;
+    if (bytes >= 8) return load(s) >> 8 * (8 + q - bytes);
+    uint64_t x = 0;
+    for (size_t k = 0; k < bytes - q; k++) x = x << 8 | s[k];
+    return x;
+}
+
+/* A stretch is the 56 bits from place i up: wherever it starts, it lies in eight bytes. */
+enum { STRETCH = 56 };
+
+static uint64_t stretch(const uint8_t *s, size_t bytes, size_t i) {
+    return word_at(s, bytes, i / 8) >> i % 8 & (((uint64_t)1 << STRETCH) - 1);
+}
+
+/* The bits from place i - w up: those under place 0 are zeros. */
+static uint64_t stretch_under(const uint8_t *s, size_t bytes, size_t i, unsigned w) {
+    size_t from = i < w ? 0 : i - w;
+    return stretch(s, bytes, from) << (from + w - i);
+}
+
+/* The lowest set bit, or the bit count where none is. */
+static size_t lowest(const uint8_t *s, size_t bytes) {
+    for (size_t q = 0; q < bytes; q++)
+        if (s[bytes - 1 - q]) return 8 * q + (size_t)__builtin_ctz(s[bytes - 1 - q]);
+    return 8 * bytes;
+}
+
+/* ---- recode: all places are cleared first, and a digit is put here and there. A string goes by value, so that its counts stay in registers. */
 typedef struct {
     int8_t *digits;
     uint64_t *marks;
     unsigned weight, top;
+    size_t left; /* the places left, for the forms that go from the top down */
 } string;
 
-static void put(string *d, size_t place, int digit) {
+static inline void put(string *d, size_t place, int digit) {
     d->digits[place] = (int8_t)digit;
     d->marks[place / 64] |= (uint64_t)1 << place % 64;
     d->weight++;
-    if (place >= d->top) d->top = (unsigned)place + 1;
 }
 
-static void mof(string *d, const uint8_t *s, size_t bytes) {
-    unsigned under = 0;
-    for (size_t j = 0; j <= 8 * bytes; j++) {
-        unsigned here = byte_at(s, bytes, j / 8) >> j % 8 & 1, some = under ^ here;
-        d->digits[j] = (int8_t)((int)under - (int)here);
-        d->marks[j / 64] |= (uint64_t)some << j % 64;
-        d->weight += some;
-        if (some) d->top = (unsigned)j + 1;
-        under = here;
-    }
-}
-
-static void wnaf(string *d, const uint8_t *s, size_t bytes, unsigned w) {
+/* wNAF, from the lowest place up. x is what remains from place i on, as far as the stretch goes; raised by half the span of a digit, it has the digit in its low bits. */
+static string wnaf(string d, const uint8_t *s, size_t bytes, unsigned w) {
+    const uint64_t half = (uint64_t)1 << (w - 1);
+    const size_t places = 8 * bytes + 1;
     unsigned carry = 0;
-    for (size_t i = 0; i <= 8 * bytes;) {
-        if ((byte_at(s, bytes, i / 8) >> i % 8 & 1) == carry) {
-            i++;
-            continue;
+    for (size_t i = 0; i < places;) {
+        size_t last = smaller(i + STRETCH - w, places - 1);
+        uint64_t x = stretch(s, bytes, i) + carry;
+        while (x) {
+            unsigned zeros = (unsigned)__builtin_ctzll(x);
+            size_t at = i + zeros;
+            if (at > last) break;
+            uint64_t raised = (x >> zeros) + half, rest = raised & (2 * half - 1);
+            put(&d, at, (int)rest - (int)half);
+            carry = rest < half;
+            x = raised >> w;
+            d.top = (unsigned)at + 1;
+            i = at + w;
         }
-        unsigned u = bits_at(s, bytes, i, w) + carry;
-        carry = u >> (w - 1);
-        put(d, i, (int)u - (int)(carry << w));
-        i += w;
+        if (i <= last) i = last + 1;
     }
+    return d;
 }
 
-/* The number of trailing zero bits of a nonzero size. */
-static unsigned zeros(unsigned size) { return (unsigned)__builtin_ctz(size); }
+/* Of the first `count` places of stretch x, those whose bit differs from the one under it, told `tail` places higher up. */
+static uint64_t opened(unsigned tail, uint64_t x, size_t count) { return ((x ^ x >> 1) >> tail & (((uint64_t)1 << count) - 1)) << tail; }
 
-/* Windows from the top down. At `tie`, if a window that leads with 1 opens there, it is worth one less and the lowest set bit ends the string. */
-static void windows(string *d, const uint8_t *s, size_t bytes, unsigned w, size_t tie) {
-    size_t left = 8 * bytes + 1;
-    while (left > 0) {
-        size_t i = left - 1;
-        unsigned bits = window_at(s, bytes, i, w);
-        unsigned leading = bits >> w;
-        if (leading == (bits >> (w - 1) & 1)) {
-            left--;
-            continue;
+static unsigned highest(uint64_t opens) { return 63 - (unsigned)__builtin_clzll(opens); }
+
+static string mof(string d, const uint8_t *s, size_t bytes) {
+    while (d.left > 0) {
+        size_t low = d.left < STRETCH - 1 ? 0 : d.left - (STRETCH - 1);
+        uint64_t x = stretch_under(s, bytes, low, 1), opens = opened(0, x, d.left - low);
+        if (opens && !d.top) d.top = (unsigned)low + highest(opens) + 1;
+        while (opens) {
+            unsigned at = highest(opens);
+            opens ^= (uint64_t)1 << at;
+            put(&d, low + at, (x >> at & 1) ? 1 : -1);
         }
-        int tied = i == tie && leading;
-        int v = (int)((bits + 1) / 2) - (int)(leading << w) - tied;
-        unsigned size = (unsigned)(v < 0 ? -v : v), k = zeros(size);
-        put(d, left + k - w, v < 0 ? -(int)(size >> k) : (int)(size >> k));
-        if (tied) {
-            put(d, tie - w, 1);
-            return;
-        }
-        left = left > w ? left - w : 0;
+        d.left = low;
     }
+    return d;
 }
 
-/* The place at which a window ties: w above the lowest set bit. */
-static size_t tie_place(const uint8_t *s, size_t bytes, unsigned w) {
-    for (size_t q = 0; q < bytes; q++)
-        if (s[bytes - 1 - q]) return 8 * q + zeros(s[bytes - 1 - q]) + w;
-    return SIZE_MAX;
+/* The digit of a window that opens over the places left; it is worth `less` less. */
+static inline void put_window(string *d, unsigned w, unsigned bits, unsigned less) {
+    unsigned half = (bits + 1) / 2 - less, k = (unsigned)__builtin_ctz(half);
+    size_t spot = d->left + k - w;
+    put(d, spot, (int)(half >> k) - (int)((bits >> w << w) >> k));
+    if (!d->top) d->top = (unsigned)spot + 1;
+    d->left = d->left < w ? 0 : d->left - w;
+}
+
+/* The windows that open at place `floor` or above. */
+static string sweep(string d, const uint8_t *s, size_t bytes, unsigned w, size_t floor) {
+    while (d.left > floor) {
+        size_t low = d.left < floor + STRETCH - w ? floor : d.left - (STRETCH - w);
+        uint64_t x = stretch_under(s, bytes, low, w), opens = opened(w - 1, x, d.left - low);
+        while (opens) {
+            unsigned at = highest(opens) - (w - 1);
+            opens &= ((uint64_t)1 << at) - 1;
+            d.left = low + at + 1;
+            put_window(&d, w, (unsigned)(x >> at) & ((2u << w) - 1), 0);
+        }
+        d.left = smaller(d.left, low);
+    }
+    return d;
+}
+
+/* The closest form is wMOF but for one window, w above the lowest set bit. If it opens there and leads with 1, it is worth one less, and the lowest set bit ends the string. */
+static string closest(string d, const uint8_t *s, size_t bytes, unsigned w) {
+    size_t low = lowest(s, bytes), tie = low + w;
+    d = sweep(d, s, bytes, w, tie + 1);
+    if (d.left == tie + 1) {
+        unsigned bits = window_at(s, bytes, tie, w);
+        if (bits >> (w - 1) == 2) {
+            put_window(&d, w, bits, 1);
+            put(&d, low, 1);
+            return d;
+        }
+    }
+    return sweep(d, s, bytes, w, 0);
 }
 
 sarvundole_tally baseline_recode(uint8_t form, uint8_t width, const uint8_t *scalar, size_t bytes, int8_t *digits, size_t places,
@@ -101,66 +167,114 @@ sarvundole_tally baseline_recode(uint8_t form, uint8_t width, const uint8_t *sca
     else if (places < 8 * bytes + 1) t.refusal = 4;
     else if (words < SARVUNDOLE_MARK_WORDS) t.refusal = 5;
     if (t.refusal) return t;
-    string d = {digits, marks, 0, 0};
+    string d = {digits, marks, 0, 0, 8 * bytes + 1};
     memset(digits, 0, 8 * bytes + 1);
     memset(marks, 0, SARVUNDOLE_MARK_WORDS * sizeof *marks);
-    if (form == SARVUNDOLE_MOF) mof(&d, scalar, bytes);
-    else if (form == SARVUNDOLE_WNAF) wnaf(&d, scalar, bytes, width);
-    else windows(&d, scalar, bytes, width, form == SARVUNDOLE_WMOF ? SIZE_MAX : tie_place(scalar, bytes, width));
+    if (form == SARVUNDOLE_MOF) d = mof(d, scalar, bytes);
+    else if (form == SARVUNDOLE_WNAF) d = wnaf(d, scalar, bytes, width);
+    else if (form == SARVUNDOLE_WMOF) d = sweep(d, scalar, bytes, width, 0);
+    else d = closest(d, scalar, bytes, width);
     t.weight = (uint16_t)d.weight;
     t.top = (uint16_t)d.top;
     return t;
 }
 
-/* ---- the checks: one pass, with a carry from place to place */
-static sarvundole_tally check(uint8_t width, const uint8_t *scalar, size_t bytes, const int8_t *digits, size_t places, unsigned apart) {
+/* ---- digits as a whole. What these loops do at a digit is no branch, and each runs to the string's end, so that the compiler takes many digits at a time. */
+typedef struct {
+    int bad;
+    size_t place;
+    unsigned weight, top;
+} scanned;
+
+/* Whether the digit is neither 0 nor odd and of absolute value below half; `most` is 2 * half - 2. */
+static inline uint8_t bad_digit(uint8_t digit, uint8_t most) {
+    return (uint8_t)((uint8_t)(digit + most / 2) > most) | (uint8_t)((digit != 0) & !(digit & 1));
+}
+
+static scanned scan(uint8_t width, const int8_t *digits, size_t places) {
+    const uint8_t most = (uint8_t)((1 << width) - 2), *bytes = (const uint8_t *)digits;
+    scanned r = {0, 0, 0, 0};
+    uint8_t bad = 0;
+    for (size_t j = 0; j < places; j++) bad |= bad_digit(bytes[j], most);
+    if (bad) {
+        r.bad = 1;
+        while (!bad_digit(bytes[r.place], most)) r.place++;
+        return r;
+    }
+    uint16_t weight = 0;
+    for (size_t j = 0; j < places; j++) weight = (uint16_t)(weight + (digits[j] != 0));
+    r.weight = weight;
+    r.top = (unsigned)places;
+    while (r.top && !digits[r.top - 1]) r.top--;
+    return r;
+}
+
+/* ---- the checks */
+/* Eight places are compared with a byte at a time, from the lowest up, with a carry to the next eight. */
+static int worth_is(const uint8_t *scalar, size_t bytes, const int8_t *digits, size_t places) {
+    const size_t whole = places / 8, end = bytes > (places + 7) / 8 ? bytes : (places + 7) / 8;
+    int carry = 0;
+    for (size_t q = 0; q < end; q++) {
+        int sum = 0;
+        if (q < whole)
+            for (size_t k = 8; k-- > 0;) sum = 2 * sum + digits[8 * q + k];
+        else
+            for (size_t j = places; j-- > 8 * q;) sum = 2 * sum + digits[j];
+        sum += carry - (int)byte_at(scalar, bytes, q);
+        if (sum & 255) return 0;
+        carry = sum >> 8;
+    }
+    return !carry;
+}
+
+/* Whether no two nonzero digits stand fewer than w places apart, gap by gap. */
+static int apart(unsigned w, const int8_t *digits, size_t places) {
+    for (size_t gap = 1; gap < w; gap++) {
+        uint8_t near = 0;
+        for (size_t j = gap; j < places; j++) near |= (uint8_t)((digits[j - gap] != 0) & (digits[j] != 0));
+        if (near) return 0;
+    }
+    return 1;
+}
+
+/* The lower place of the lowest pair that stands too near, in a string that has one. */
+static size_t near_place(unsigned w, const int8_t *digits) {
+    size_t free = 0;
+    for (size_t j = 0;; j++) {
+        if (!digits[j]) continue;
+        if (j < free) return free - w;
+        free = j + w;
+    }
+}
+
+static sarvundole_tally check(uint8_t width, const uint8_t *scalar, size_t bytes, const int8_t *digits, size_t places) {
     sarvundole_tally t = {0, 0, 0, 0};
     if (bad_width(width)) t.refusal = 2;
     else if (bytes > SARVUNDOLE_MOST_BYTES) t.refusal = 3;
     else if (places > SARVUNDOLE_MOST_PLACES) t.refusal = 7;
     if (t.refusal) return t;
-    const int half = 1 << (width - 1);
-    int carry = 0, other = 0, near = 0;
-    unsigned weight = 0, top = 0, near_place = 0;
-    for (size_t j = 0; j < places; j++) {
-        int digit = digits[j], size = digit < 0 ? -digit : digit;
-        if (digit) {
-            if (!(size & 1) || size >= half) {
-                t.refusal = 8;
-                t.place = (uint16_t)j;
-                return t;
-            }
-            if (top && !near && j + 1 < top + apart) near = 1, near_place = top - 1;
-            weight++;
-            top = (unsigned)j + 1;
-        }
-        int sum = carry + digit - (int)(byte_at(scalar, bytes, j / 8) >> j % 8 & 1);
-        other |= sum & 1;
-        carry = sum >> 1;
-    }
-    for (size_t j = places; j < 8 * bytes; j++) {
-        int sum = carry - (int)(byte_at(scalar, bytes, j / 8) >> j % 8 & 1);
-        other |= sum & 1;
-        carry = sum >> 1;
-    }
-    if (other || carry) {
+    scanned found = scan(width, digits, places);
+    if (found.bad) {
+        t.refusal = 8;
+        t.place = (uint16_t)found.place;
+    } else if (!worth_is(scalar, bytes, digits, places)) {
         t.refusal = 9;
-    } else if (near) {
-        t.refusal = 10;
-        t.place = (uint16_t)near_place;
     } else {
-        t.weight = (uint16_t)weight;
-        t.top = (uint16_t)top;
+        t.weight = (uint16_t)found.weight;
+        t.top = (uint16_t)found.top;
     }
     return t;
 }
 
 sarvundole_tally baseline_check(uint8_t width, const uint8_t *scalar, size_t bytes, const int8_t *digits, size_t places) {
-    return check(width, scalar, bytes, digits, places, 0);
+    return check(width, scalar, bytes, digits, places);
 }
 
 sarvundole_tally baseline_check_nonadjacent(uint8_t width, const uint8_t *scalar, size_t bytes, const int8_t *digits, size_t places) {
-    return check(width, scalar, bytes, digits, places, width);
+    sarvundole_tally t = check(width, scalar, bytes, digits, places);
+    if (t.refusal || apart(width, digits, places)) return t;
+    sarvundole_tally near = {10, (uint16_t)near_place(width, digits), 0, 0};
+    return near;
 }
 
 /* ---- tape */
@@ -173,33 +287,33 @@ sarvundole_taped baseline_tape(uint8_t width, const int8_t *digits, size_t place
     if (bad_width(width)) t.refusal = 2;
     else if (places > SARVUNDOLE_MOST_PLACES) t.refusal = 7;
     if (t.refusal) return t;
-    const int half = 1 << (width - 1);
-    size_t weight = 0, top = 0;
-    for (size_t j = 0; j < places; j++) {
-        int digit = digits[j], size = digit < 0 ? -digit : digit;
-        if (!digit) continue;
-        if (!(size & 1) || size >= half) {
-            t.refusal = 8;
-            t.place = (uint16_t)j;
-            return t;
-        }
-        weight++;
-        top = j + 1;
+    scanned found = scan(width, digits, places);
+    if (found.bad) {
+        t.refusal = 8;
+        t.place = (uint16_t)found.place;
+        return t;
     }
-    if (!top) return t;
-    if (room < top - 1 + weight) {
+    if (!found.top) return t;
+    size_t j = found.top - 1, at = 1, needed = j + found.weight;
+    if (room < needed) {
         t.refusal = 11;
         return t;
     }
-    size_t at = 0;
-    words[at++] = word(1, digits[top - 1]);
-    for (size_t j = top - 1; j-- > 0;) {
-        words[at++] = 0;
-        if (digits[j]) words[at++] = word(3, digits[j]);
+    words[0] = word(1, digits[j]);
+    /* After the double of a 0 stands a word that means nothing: the next place's double is written over it. Place 0 has no next. */
+    while (j > 1) {
+        j--;
+        words[at] = 0;
+        words[at + 1] = word(3, digits[j]);
+        at += 1 + (digits[j] != 0);
     }
-    t.words = (uint16_t)at;
-    t.doublings = (uint16_t)(top - 1);
-    t.additions = (uint16_t)(weight - 1);
+    if (j > 0) {
+        words[at] = 0;
+        if (digits[0]) words[at + 1] = word(3, digits[0]);
+    }
+    t.words = (uint16_t)needed;
+    t.doublings = (uint16_t)(found.top - 1);
+    t.additions = (uint16_t)(found.weight - 1);
     return t;
 }
 
@@ -246,7 +360,55 @@ sarvundole_ran baseline_run(uint8_t width, const uint16_t *tape, size_t words, u
     return r;
 }
 
-/* ---- reader: windows from the top down, as far as the digit that is asked for */
+/* ---- reader: windows from the top down */
+typedef struct {
+    size_t spot;
+    int8_t digit;
+} placed;
+
+static int opens(unsigned w, unsigned bits) { return bits >> w != (bits >> (w - 1) & 1); }
+
+/* Where the digit of a window over `left` places stands. */
+static placed place(unsigned w, unsigned bits, size_t left) {
+    unsigned half = (bits + 1) / 2, k = (unsigned)__builtin_ctz(half);
+    placed p = {left + k - w, (int8_t)((int)(half >> k) - (int)((bits >> w << w) >> k))};
+    return p;
+}
+
+sarvundole_reader baseline_reader_start(uint8_t width, const uint8_t *scalar, size_t bytes) {
+    sarvundole_reader r = {0, 0, 0, width, 0, 0};
+    (void)scalar;
+    if (bad_width(width)) r.refusal = 2;
+    else if (bytes > SARVUNDOLE_MOST_BYTES) r.refusal = 3;
+    else r.place = r.floor = (uint16_t)(8 * bytes + 1);
+    return r;
+}
+
+sarvundole_stepped baseline_reader_next(const uint8_t *scalar, size_t bytes, sarvundole_reader reader) {
+    sarvundole_stepped r = {reader, 0, 0};
+    const unsigned w = reader.width;
+    if (reader.place <= reader.floor) {
+        if (!reader.place || reader.place > SARVUNDOLE_MOST_PLACES || bad_width(reader.width)) {
+            r.reader.place = 0;
+            return r;
+        }
+        unsigned bits = window_at(scalar, bytes, reader.place - 1, w);
+        placed p = {0, 0};
+        r.reader.floor = (uint16_t)(reader.place - 1);
+        if (opens(w, bits)) {
+            p = place(w, bits, reader.place);
+            r.reader.floor = (uint16_t)(reader.place < w ? 0 : reader.place - w);
+        }
+        r.reader.spot = (uint16_t)p.spot;
+        r.reader.pending = p.digit;
+    }
+    r.reader.place--;
+    r.given = 1;
+    r.digit = r.reader.place == r.reader.spot ? r.reader.pending : 0;
+    return r;
+}
+
+/* As far as the digit that is asked for. */
 sarvundole_reading baseline_read_at(uint8_t width, const uint8_t *scalar, size_t bytes, uint16_t calls) {
     sarvundole_reading r = {0, 0, 0};
     if (bad_width(width)) r.refusal = 2;
@@ -257,8 +419,8 @@ sarvundole_reading baseline_read_at(uint8_t width, const uint8_t *scalar, size_t
     size_t left = 8 * bytes + 1;
     r.given = 1;
     while (left > asked) {
-        unsigned bits = window_at(scalar, bytes, left - 1, w), leading = bits >> w;
-        if (leading == (bits >> (w - 1) & 1)) {
+        unsigned bits = window_at(scalar, bytes, left - 1, w);
+        if (!opens(w, bits)) {
             left--;
             continue;
         }
@@ -266,27 +428,34 @@ sarvundole_reading baseline_read_at(uint8_t width, const uint8_t *scalar, size_t
             left -= w;
             continue;
         }
-        int v = (int)((bits + 1) / 2) - (int)(leading << w);
-        unsigned size = (unsigned)(v < 0 ? -v : v), k = zeros(size);
-        if (left + k - w == asked) r.digit = (int8_t)(v < 0 ? -(int)(size >> k) : (int)(size >> k));
+        placed p = place(w, bits, left);
+        if (p.spot == asked) r.digit = p.digit;
         return r;
     }
     return r;
 }
 
-/* ---- search: every digit at the lowest place, for a string of at most so many nonzero digits */
-static int within(int half, unsigned places, int rest, unsigned weight) {
-    if (!weight || !places) return !rest;
-    if (!(rest & 1)) return within(half, places - 1, rest / 2, weight);
-    for (int digit = 1; digit < half; digit += 2)
-        if (within(half, places - 1, (rest - digit) / 2, weight - 1) || within(half, places - 1, (rest + digit) / 2, weight - 1)) return 1;
-    return 0;
+/* ---- search: every digit at the lowest place, and what is left over it on one place fewer. Its size alone is searched: the negative weighs the same. */
+enum { NOTHING = 10 }; /* more than any string of nine places weighs */
+
+static unsigned least(unsigned half, unsigned places, unsigned size) {
+    if (!places) return size ? NOTHING : 0;
+    unsigned best = size & 1 ? NOTHING : least(half, places - 1, size / 2);
+    for (unsigned digit = 1; digit < half; digit += 2) {
+        if (!((size - digit) & 1)) {
+            unsigned under = 1 + least(half, places - 1, (size < digit ? digit - size : size - digit) / 2);
+            unsigned over = 1 + least(half, places - 1, (size + digit) / 2);
+            best = under < best ? under : best;
+            best = over < best ? over : best;
+        }
+    }
+    return best;
 }
 
 sarvundole_searched baseline_search(uint32_t number, uint8_t width) {
     sarvundole_searched r = {0, 0};
     if (width != 2 && width != 3) r.refusal = 2;
     else if (number > 127) r.refusal = 3;
-    else while (!within(1 << (width - 1), 9, (int)number, r.weight)) r.weight++;
+    else r.weight = (uint8_t)least(1u << (width - 1), 9, number);
     return r;
 }

@@ -1,6 +1,9 @@
 /* Every call of the library against the baseline, in one process and in turn. First the two are held to each other on random input; then each
  * call is timed at several lengths, a batch of the one and a batch of the other, the first of the two changing each time. Prints how many inputs and
- * alternations there are, then a line a case: call, width, bytes, the median of library / baseline, and the two medians in nanoseconds. */
+ * alternations there are, then a line a case: call, width, bytes, the median of library / baseline, and the two medians in nanoseconds.
+ *
+ * With the word `count` it times nothing and makes each call on a few inputs, for bench/count, which counts instructions inside the calls alone, and ends a count
+ * after each call of `counted`. Prints how many inputs there are, then a line for each call of `counted`: call, width, bytes and who answers. */
 #include "baseline.h"
 
 #include <stdio.h>
@@ -8,7 +11,7 @@
 #include <string.h>
 #include <time.h>
 
-enum { INPUTS = 512, TURNS = 101, AGREED = 20000, ROOM_PLACES = 640, ROOM_WORDS = 1100, ROOM_MARKS = 10, ROOM_MULTIPLES = 70 };
+enum { INPUTS = 512, COUNTED = 128, TURNS = 101, AGREED = 20000, ROOM_PLACES = 640, ROOM_WORDS = 1100, ROOM_MARKS = 10, ROOM_MULTIPLES = 70 };
 
 /* One call's input and the memory that it is lent. */
 typedef struct {
@@ -17,6 +20,7 @@ typedef struct {
     size_t bytes, places, words, room, marks_room, multiples_room;
     uint32_t modulus, base;
     uint16_t calls;
+    sarvundole_reader reader;
     int8_t digits[ROOM_PLACES];
     uint16_t tape[ROOM_WORDS];
 } input;
@@ -26,7 +30,7 @@ typedef struct {
     uint64_t marks[ROOM_MARKS];
     uint16_t words[ROOM_WORDS];
     uint32_t multiples[ROOM_MULTIPLES];
-    uint32_t fields[6];
+    uint32_t fields[8];
 } output;
 
 /* ---- the calls, each as the library's or as the baseline's */
@@ -66,6 +70,28 @@ static void read_at(const input *in, output *out, int library) {
     out->fields[0] = r.refusal, out->fields[1] = r.given, out->fields[2] = (uint32_t)r.digit;
 }
 
+static sarvundole_reader next(const input *in, output *out, int library, sarvundole_reader reader, size_t at) {
+    sarvundole_stepped r = (library ? sarvundole_reader_next : baseline_reader_next)(in->scalar, in->bytes, reader);
+    out->fields[0] = r.given;
+    out->digits[at] = r.digit;
+    return r.reader;
+}
+
+static void reader_is(output *out, sarvundole_reader r) {
+    out->fields[1] = r.place, out->fields[2] = r.spot, out->fields[3] = r.floor, out->fields[4] = r.width, out->fields[5] = (uint32_t)r.pending;
+    out->fields[6] = r.refusal;
+}
+
+/* A whole sequence: the start, and as many calls as are asked for and one more. */
+static void reader_next(const input *in, output *out, int library) {
+    sarvundole_reader reader = (library ? sarvundole_reader_start : baseline_reader_start)(in->width, in->scalar, in->bytes);
+    for (size_t i = 0; i <= in->calls; i++) reader = next(in, out, library, reader, i);
+    reader_is(out, reader);
+}
+
+/* One call on a reader that no start gave. */
+static void reader_next_on_any(const input *in, output *out, int library) { reader_is(out, next(in, out, library, in->reader, 0)); }
+
 static void search(const input *in, output *out, int library) {
     sarvundole_searched r = (library ? sarvundole_search : baseline_search)(in->base, in->width);
     out->fields[0] = r.refusal, out->fields[1] = r.weight;
@@ -99,6 +125,8 @@ static void any(input *in) {
     accepted(in, form, (uint8_t)(form == 1 ? 2 : 2 + chance(7)), chance(SARVUNDOLE_MOST_BYTES + 1));
     in->calls = (uint16_t)chance(600);
     if (!chance(4)) in->base = chance(140);
+    in->reader = (sarvundole_reader){(uint16_t)chance(600), (uint16_t)chance(600), (uint16_t)chance(600), (uint8_t)chance(11), (int8_t)chance(256), 0};
+    if (!chance(8)) in->reader.place = (uint16_t)chance(65536), in->reader.floor = (uint16_t)chance(65536), in->reader.refusal = (uint8_t)chance(256);
     switch (chance(16)) {
     case 0: in->form = (uint8_t)chance(256); break;
     case 1: in->width = (uint8_t)chance(11); break;
@@ -156,14 +184,20 @@ static double batch(job *call, const input *ins, output *out, int library, int t
     return (now() - begun) / (times * INPUTS);
 }
 
+/* The inputs of a case: the same ones each time. The search takes every number in turn, and no scalar. */
+static void prepare(input *ins, int count, job *call, uint8_t form, uint8_t width, size_t bytes) {
+    state = 1;
+    for (int i = 0; i < count; i++) {
+        accepted(&ins[i], form, width, bytes);
+        if (call == search) ins[i].base = (uint32_t)(i % 128);
+    }
+}
+
 static void time_one(const char *name, job *call, uint8_t form, uint8_t width, size_t bytes) {
     static input ins[INPUTS];
     static output out;
     double ours[TURNS], theirs[TURNS], ratios[TURNS];
-    for (int i = 0; i < INPUTS; i++) {
-        accepted(&ins[i], form, width, bytes);
-        if (call == search) ins[i].base = (uint32_t)(i % 128);
-    }
+    prepare(ins, INPUTS, call, form, width, bytes);
     int times = 1;
     while (times < 1024 && batch(call, ins, &out, 0, times) * times * INPUTS < 1e5) times *= 2;
     for (int t = 0; t < TURNS; t++)
@@ -176,25 +210,59 @@ static void time_one(const char *name, job *call, uint8_t form, uint8_t width, s
     printf("%s\t%d\t%zu\t%.3f\t%.1f\t%.1f\n", name, width, bytes, median(ratios), a, b);
 }
 
-int main(void) {
-    static const struct {
-        const char *name;
-        job *call;
-        uint8_t form, least, most;
-    } calls[] = {
-        {"recode MOF", recode, 1, 2, 2},     {"recode wNAF", recode, 2, 4, 8}, {"recode wMOF", recode, 3, 4, 8},
-        {"recode closest", recode, 4, 4, 8}, {"check", check, 2, 4, 8},        {"check_nonadjacent", check_nonadjacent, 2, 4, 8},
-        {"tape", tape, 2, 4, 8},             {"run", run, 2, 4, 8},            {"read_at", read_at, 3, 4, 8},
-        {"search", search, 2, 2, 3},
+/* ---- counting */
+__attribute__((noinline)) void counted(job *call, const input *ins, output *out, int library) {
+    for (int i = 0; i < COUNTED; i++) call(&ins[i], out, library);
+}
+
+static void count_one(const char *name, job *call, uint8_t form, uint8_t width, size_t bytes) {
+    static input ins[COUNTED];
+    static output out;
+    prepare(ins, COUNTED, call, form, width, bytes);
+    for (int library = 0; library < 2; library++) {
+        counted(call, ins, &out, library);
+        printf("%s\t%d\t%zu\t%s\n", name, width, bytes, library ? "library" : "baseline");
+    }
+}
+
+/* ---- the cases */
+typedef struct {
+    const char *name;
+    job *call;
+    uint8_t form, widths[6]; /* the widths end with 0; of a long row 4 and 8 alone are timed */
+} row;
+
+int main(int words, char **given) {
+    static const row calls[] = {
+        {"recode MOF", recode, 1, {2}},
+        {"recode wNAF", recode, 2, {2, 4, 5, 6, 8}},
+        {"recode wMOF", recode, 3, {2, 4, 5, 6, 8}},
+        {"recode closest", recode, 4, {2, 4, 5, 6, 8}},
+        {"check", check, 2, {2, 4, 5, 6, 8}},
+        {"check_nonadjacent", check_nonadjacent, 2, {2, 4, 5, 6, 8}},
+        {"tape", tape, 2, {2, 4, 5, 6, 8}},
+        {"run", run, 2, {2, 4, 5, 6, 8}},
+        {"read_at", read_at, 3, {2, 4, 5, 6, 8}},
+        {"reader_next", reader_next, 3, {2, 4, 5, 6, 8}},
+        {"search", search, 2, {2, 3}},
     };
     static const size_t lengths[] = {8, 16, 32, 48, 66};
     const size_t count = sizeof calls / sizeof *calls;
-    for (size_t c = 0; c < count; c++) agree(calls[c].name, calls[c].call);
-    printf("%d\t%d\n", INPUTS, TURNS);
+    const int counting = words == 2 && !strcmp(given[1], "count");
+    if (!counting) {
+        for (size_t c = 0; c < count; c++) agree(calls[c].name, calls[c].call);
+        agree("reader_next on any reader", reader_next_on_any);
+    }
+    if (counting) printf("%d\n", COUNTED);
+    else printf("%d\t%d\n", INPUTS, TURNS);
     for (size_t c = 0; c < count; c++)
-        for (int width = calls[c].least; width <= calls[c].most; width += calls[c].call == search ? 1 : 4)
-            for (size_t l = 0; l < sizeof lengths / sizeof *lengths; l++)
-                if (calls[c].call != search || l == 0)
-                    time_one(calls[c].name, calls[c].call, calls[c].form, (uint8_t)width, calls[c].call == search ? 0 : lengths[l]);
+        for (const uint8_t *width = calls[c].widths; *width; width++)
+            for (size_t l = 0; l < sizeof lengths / sizeof *lengths; l++) {
+                const row *r = &calls[c];
+                if (r->call == search && l > 0) continue;
+                const size_t bytes = r->call == search ? 0 : lengths[l];
+                if (counting && (!bytes || bytes == 32 || bytes == 66)) count_one(r->name, r->call, r->form, *width, bytes);
+                if (!counting && (!r->widths[2] || *width == 4 || *width == 8)) time_one(r->name, r->call, r->form, *width, bytes);
+            }
     return 0;
 }
