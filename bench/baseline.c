@@ -278,8 +278,10 @@ sarvundole_tally baseline_check_nonadjacent(uint8_t width, const uint8_t *scalar
 }
 
 /* ---- tape */
+/* The word of a digit whose code with a plus is `code`: with a minus it is the next. Without a branch: the sign is as good as random. */
 static uint16_t word(unsigned code, int digit) {
-    return (uint16_t)(digit < 0 ? (code + 1) << 12 | (unsigned)(-digit) / 2 : code << 12 | (unsigned)digit / 2);
+    int minus = digit < 0;
+    return (uint16_t)((code + (unsigned)minus) << 12 | (unsigned)((digit ^ -minus) + minus) / 2);
 }
 
 sarvundole_taped baseline_tape(uint8_t width, const int8_t *digits, size_t places, uint16_t *words, size_t room) {
@@ -305,7 +307,7 @@ sarvundole_taped baseline_tape(uint8_t width, const int8_t *digits, size_t place
         j--;
         words[at] = 0;
         words[at + 1] = word(3, digits[j]);
-        at += 1 + (digits[j] != 0);
+        at += 1 + (-(unsigned)(uint8_t)digits[j] >> 31); /* 1 for a digit that is not 0: of a comparison gcc makes a branch */
     }
     if (j > 0) {
         words[at] = 0;
