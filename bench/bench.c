@@ -1,6 +1,7 @@
 /* Every call of the library against the baseline, in one process and in turn. First the two are held to each other on random input; then each
  * call is timed at several lengths, a batch of the one and a batch of the other, the first of the two changing each time. Prints how many inputs and
- * alternations there are, then a line a case: call, width, bytes, the median of library / baseline, and the two medians in nanoseconds.
+ * alternations there are, then a line a case: call, width, bytes, the median of library / baseline, and the least time of each in nanoseconds,
+ * which other work on the machine changes least.
  *
  * With the word `count` it times nothing and makes each call on a few inputs, for bench/count, which counts instructions inside the calls alone, and ends a count
  * after each call of `counted`. Prints how many inputs there are, then a line for each call of `counted`: call, width, bytes and who answers. */
@@ -177,6 +178,12 @@ static double median(double *xs) {
     return xs[TURNS / 2];
 }
 
+static double least(const double *xs) {
+    double found = xs[0];
+    for (int t = 1; t < TURNS; t++) found = xs[t] < found ? xs[t] : found;
+    return found;
+}
+
 static double batch(job *call, const input *ins, output *out, int library, int times) {
     double begun = now();
     for (int t = 0; t < times; t++)
@@ -206,8 +213,7 @@ static void time_one(const char *name, job *call, uint8_t form, uint8_t width, s
             (library ? ours : theirs)[t] = batch(call, ins, &out, library, times);
         }
     for (int t = 0; t < TURNS; t++) ratios[t] = ours[t] / theirs[t];
-    double a = median(ours), b = median(theirs);
-    printf("%s\t%d\t%zu\t%.3f\t%.1f\t%.1f\n", name, width, bytes, median(ratios), a, b);
+    printf("%s\t%d\t%zu\t%.3f\t%.1f\t%.1f\n", name, width, bytes, median(ratios), least(ours), least(theirs));
 }
 
 /* ---- counting */
