@@ -12,8 +12,8 @@ use lib.IntN.{ℤ, pos}
 use lib.ListN.{length, getD, take}
 use lib.Seq.{take-suc}
 use Rattle.forms.proofs.Strings.{all-in, all-at}
-use Rattle.meaning.specs.Digits.{largest, inSet, allIn}
-use Rattle.meaning.specs.Refusals.{lowest}
+use Rattle.meaning.specs.Digits.{inSet, allIn}
+use Rattle.meaning.specs.Refusals.{Lowest}
 use Rattle.meaning.specs.Checking.{BadDigit}
 
 -- a test's flag, as the code has it
@@ -38,28 +38,28 @@ pub all-next : (m : ℕ) (ds : List ℤ) (i : ℕ) → i < length ds → allIn m
 all-next m ds i h = rw add-one (ap (allIn m) (take-suc ds i (pos 0) h) ∙ all-snoc m (take i ds) (getD ds i (pos 0)))
 
 -- ---- bad digits
-module _ (w : ℕ) (ds : List ℤ) where
-  -- the digits under place i are in D_w
+module _ (m : ℕ) (ds : List ℤ) where
+  -- the digits under place i are in the set
   abbrev pub Passed : ℕ → Type 0
-  Passed i = (p : ℕ) → p < i → T (inSet (largest w) (getD ds p (pos 0)))
+  Passed i = (p : ℕ) → p < i → T (inSet m (getD ds p (pos 0)))
 
   -- one digit more
-  pub pass-more : (i : ℕ) {d : ℤ} → Passed i → d ≡ getD ds i (pos 0) → T (inSet (largest w) d) → Passed (i + 1)
+  pub pass-more : (i : ℕ) {d : ℤ} → Passed i → d ≡ getD ds i (pos 0) → T (inSet m d) → Passed (i + 1)
   pass-more i {d} h e t p l =
-      ⊎-elim (λ (q : p ≡ i). subst (λ x. T (inSet (largest w) x)) (e ∙ ap (λ j. getD ds j (pos 0)) (sym q)) t) (λ (q : p < i). h p q) (eq-or-lt-of-le {n = p} {m = i} (omega arith))
+      ⊎-elim (λ (q : p ≡ i). subst (λ x. T (inSet m x)) (e ∙ ap (λ j. getD ds j (pos 0)) (sym q)) t) (λ (q : p < i). h p q) (eq-or-lt-of-le {n = p} {m = i} (omega arith))
 
-  -- a digit in D_w is not bad
-  none-bad : (p : ℕ) → T (inSet (largest w) (getD ds p (pos 0))) → BadDigit w ds p → ⊥
-  none-bad p t b = T-not (inSet (largest w) (getD ds p (pos 0))) (b .bad) t
+  -- a digit in the set is not bad
+  none-bad : (p : ℕ) → T (inSet m (getD ds p (pos 0))) → BadDigit m ds p → ⊥
+  none-bad p t b = T-not (inSet m (getD ds p (pos 0))) (b .bad) t
 
   -- a bad digit here is the lowest
-  pub pass-bad : (i : ℕ) {d : ℤ} → Passed i → i < length ds → d ≡ getD ds i (pos 0) → T (not (inSet (largest w) d)) → lowest (BadDigit w ds) i
-  pass-bad i h l e t = (record { within = l; bad = subst (λ x. T (not (inSet (largest w) x))) e t }, λ q m b. none-bad q (h q m) b)
+  pub pass-bad : (i : ℕ) {d : ℤ} → Passed i → i < length ds → d ≡ getD ds i (pos 0) → T (not (inSet m d)) → Lowest (BadDigit m ds) i
+  pass-bad i h l e t = (record { within = l; bad = subst (λ x. T (not (inSet m x))) e t }, λ q m b. none-bad q (h q m) b)
 
   -- there is one
-  pub pass-all : (i : ℕ) → Passed i → length ds ≤ i → allIn (largest w) ds ≡ false → ⊥
-  pass-all i h l e = subst T e (all-in (largest w) ds (λ p m. h p (omega arith)))
+  pub pass-all : (i : ℕ) → Passed i → length ds ≤ i → allIn m ds ≡ false → ⊥
+  pass-all i h l e = subst T e (all-in m ds (λ p m. h p (omega arith)))
 
-  -- and where all are in D_w there is none
-  pub sound-all : allIn (largest w) ds ≡ true → (p : ℕ) → BadDigit w ds p → ⊥
-  sound-all e p b = none-bad p (all-at (largest w) ds (flag e) p (b .within)) b
+  -- and where all are in the set there is none
+  pub sound-all : allIn m ds ≡ true → (p : ℕ) → BadDigit m ds p → ⊥
+  sound-all e p b = none-bad p (all-at m ds (flag e) p (b .within)) b

@@ -5,19 +5,19 @@ use mathlib.Core.List.{List}
 use Prim.Native.Nat.{ℕ}
 use lib.IntN.{ℤ}
 use Rattle.meaning.specs.Digits.{weight, top}
-use Rattle.meaning.specs.Refusals.{lowest}
+use Rattle.meaning.specs.Refusals.{Lowest}
 use Rattle.meaning.specs.Checking.{BadDigit}
 use Rattle.digits.specs.declared.Count.{Count}
 use Rattle.digits.specs.declared.Found.{Found}
 use Rattle.digits.specs.declared.Found.the-variants.{Bad, Sound}
 
--- every digit is in D_w, and c has the string's counts
-pub record Whole (w : ℕ) (ds : List ℤ) (c : Count) : Type 0 where
-  pub sound : (p : ℕ) → BadDigit w ds p → ⊥
+-- every digit is in the set of the largest digit m, and c has the string's counts
+pub record Whole (m : ℕ) (ds : List ℤ) (c : Count) : Type 0 where
+  pub sound : (p : ℕ) → BadDigit m ds p → ⊥
   pub weight-is : c .weight ≡ weight ds
   pub top-is : c .top ≡ top ds
 
 -- the lowest bad digit's place, or the counts
 abbrev pub Scan : ℕ → List ℤ → Found → Type 0
-Scan w ds (Bad p) = lowest (BadDigit w ds) p
-Scan w ds (Sound c) = Whole w ds c
+Scan m ds (Bad p) = Lowest (BadDigit m ds) p
+Scan m ds (Sound c) = Whole m ds c

@@ -3,10 +3,9 @@ ghost use mathlib.Core.Path.{_≡_};
 ghost use mathlib.Core.Bool.{false, _&&_};
 ghost use Prim.Native.Nat.{_≤_};
 ghost use lib.ListN.{length};
-ghost use Rattle.meaning.specs.Digits.{mostPlaces, largest, allIn, nonzero, weight, top};
-ghost use Rattle.meaning.specs.Refusals.{lowest};
+ghost use Rattle.meaning.specs.Digits.{mostPlaces, allIn, nonzero, weight, top};
+ghost use Rattle.meaning.specs.Refusals.{Lowest};
 ghost use Rattle.meaning.specs.Checking.{BadDigit};
-ghost use Rattle.width.specs.Widths.{Lawful};
 ghost use Rattle.digits.specs.Scans.{Scan};
 use width::Width;
 
@@ -33,8 +32,8 @@ pub fn both(a: bool, b: bool) -> bool
 
 // Whether the width has all digits.
 fn sound(width: Width, digits: &[i8]) -> bool
-    requires { ⌜ Lawful (width .bits) ⌝ }
-    ensures { λ r. ⌜ r ≡ allIn (largest (width .bits)) (now (digits .entry)) ⌝ }
+    requires { ⌜ 1 ≤ width .largest ⌝ }
+    ensures { λ r. ⌜ r ≡ allIn (width .largest) (now (digits .entry)) ⌝ }
 {
     let mut all = true;
     let mut i = 0;
@@ -69,9 +68,9 @@ fn weight(digits: &[i8]) -> u16
 // ---- one digit
 // The lowest place whose digit the width does not have, in a string that has such a place.
 fn lowest_bad(width: Width, digits: &[i8]) -> usize
-    requires { ⌜ Lawful (width .bits) ⌝ }
-    requires { ⌜ allIn (largest (width .bits)) (now digits) ≡ false ⌝ }
-    ensures { λ r. ⌜ lowest (BadDigit (width .bits) (now (digits .entry))) r ⌝ }
+    requires { ⌜ 1 ≤ width .largest ⌝ }
+    requires { ⌜ allIn (width .largest) (now digits) ≡ false ⌝ }
+    ensures { λ r. ⌜ Lowest (BadDigit (width .largest) (now (digits .entry))) r ⌝ }
 {
     let mut i = 0;
     while i < digits.len() {
@@ -99,9 +98,9 @@ fn top(digits: &[i8]) -> usize
 
 // ---- the scan
 pub fn scan(width: Width, digits: &[i8]) -> Found
-    requires { ⌜ Lawful (width .bits) ⌝ }
+    requires { ⌜ 1 ≤ width .largest ⌝ }
     requires { ⌜ length (now digits) ≤ mostPlaces ⌝ }
-    ensures { λ r. ⌜ Scan (width .bits) (now (digits .entry)) r ⌝ }
+    ensures { λ r. ⌜ Scan (width .largest) (now (digits .entry)) r ⌝ }
 {
     if sound(width, digits) {
         return Found::Sound(Count {
@@ -110,4 +109,13 @@ pub fn scan(width: Width, digits: &[i8]) -> Found
         });
     }
     Found::Bad(lowest_bad(width, digits))
+}
+
+// What recode and the checks answer: 0, or the number of a refusal; the place where the refusal names one; and on acceptance the weight and the top.
+#[repr(C)]
+pub struct Tally {
+    pub refusal: u8,
+    pub place: u16,
+    pub weight: u16,
+    pub top: u16,
 }

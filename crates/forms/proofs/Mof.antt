@@ -8,7 +8,7 @@ use native.Mathlib.Nat.{add-zero, add-suc, suc-add, zero-add, div-eq-of-lt, div-
 use lib.Dec.{T}
 use lib.ListN.{length, getD}
 use lib.Pow.{shr-shr}
-use lib.IntN.{ℤ, pos, negℤ, _+ℤ_, _-ℤ_, _*ℤ_}
+use lib.IntN.{pos, negℤ, _+ℤ_, _-ℤ_, _*ℤ_}
 use Rattle.laws.proofs.Integers.{diffs, ring, minus}
 use Rattle.laws.proofs.Choices.{and-of}
 use Rattle.meaning.specs.Scalars.{bit, below}

@@ -10,7 +10,7 @@ use lib.Pow.{pow-pos}
 use lib.IntN.{ℤ, pos, natAbs, _+ℤ_, _-ℤ_, _*ℤ_}
 use Rattle.laws.proofs.Integers.{parts, diffs, ring, abs-pos}
 use Rattle.meaning.specs.Closest.{Tie, larger, smaller, IsClosest}
-use Rattle.forms.proofs.Nearest.{Tied, round-closest, self-candidate, self-closest, closest-unique, sgn, sgn-far, scale}
+use Rattle.forms.proofs.Nearest.{Tied, round-closest, self-candidate, self-closest, sgn, sgn-far, scale}
 
 -- a / (2 · H) to the nearest number, a tie up or down
 unfoldable pub round : Tie → ℕ → ℕ → ℕ
@@ -59,14 +59,6 @@ rounded-closest tie w j two R big top =
   where
     law : (q P n : ℕ) (u : ℤ) → q ≡ P → pos q *ℤ (pos n *ℤ u) ≡ pos (P * n) *ℤ u
     law q P n u h = rw (h, parts u) (simp diffs (omega ring))
-
--- and so is any other
-pub closest-rounded : {tie : Tie} {w : ℕ} (j : ℕ) → 2 ≤ w → {R c : ℤ} → IsClosest tie w R c → 2 ^ (j + w) ≤ 2 * natAbs R → natAbs R ≤ 2 ^ (j + w) → c ≡ pos (2 ^ suc j) *ℤ rounded tie j R
-closest-rounded {tie} {w} j two {R} C big top = closest-unique (λ z. omega (arith, ap natAbs z, pow-pos (j + w))) C (rounded-closest tie w j two R big top)
-
--- and R itself where it is small
-pub closest-small : {tie : Tie} {w : ℕ} → 2 ≤ w → {R c : ℤ} → IsClosest tie w R c → 0 < natAbs R → 2 * natAbs R ≤ 2 ^ w → c ≡ R
-closest-small {tie} {w} two {R} C h l = closest-unique (λ z. omega (arith, ap natAbs z)) C (self-closest R (self-candidate w two R h l))
 
 -- there is one
 pub closest-exists : (tie : Tie) (w : ℕ) → 2 ≤ w → (R : ℤ) → R ≢ pos 0 → (c : ℤ) × IsClosest tie w R c

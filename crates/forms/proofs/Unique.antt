@@ -1,6 +1,6 @@
 -- Two nonadjacent forms of one integer have one weight, and a part of an integer has a lower weight than the integer (`lemma-S`). Assumes nothing.
 use mathlib.Core.Path.{_≡_, refl, sym, ap, _∙_}
-use Prim.Native.Nat.{ℕ, zero, suc, _+_, _*_, _-_, _^_, _<_, _≤_, suc-le-suc}
+use Prim.Native.Nat.{ℕ, zero, suc, _+_, _*_, _^_, _<_, _≤_, suc-le-suc}
 use native.Mathlib.Omega.{arith}
 use native.Mathlib.Decide.{decLt}
 use native.Mathlib.Nat.{suc-add, add-assoc, le-add-left, le-dest, lt-of-mul-lt-mul-left}

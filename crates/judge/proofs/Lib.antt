@@ -2,4 +2,4 @@
 pub mod Tests
 pub mod Levels
 pub mod Spaces
-pub mod Rules
+pub mod Refusals

@@ -9,7 +9,7 @@ use native.Mathlib.Omega.{arith}
 use native.Mathlib.Decide.{decLt}
 use lib.IntN.{ℤ, ℤ-discrete, pos}
 use lib.ListN.{length, getD, List·getD-eq-default}
-use Rattle.meaning.specs.Refusals.{lowest}
+use Rattle.meaning.specs.Refusals.{Lowest}
 use Rattle.meaning.specs.Checking.{Crowded}
 use Rattle.laws.proofs.Choices.{not-below}
 use Rattle.judge.specs.Spaces.{Freed, Clear}
@@ -96,7 +96,7 @@ module _ (w : ℕ) (ds : List ℤ) where
 
   module _ (free i : ℕ) (h : Roomy w ds free i) where
     -- a digit too near: its pair is the lowest
-    pub room-short : {d : ℤ} → d ≡ getD ds i (pos 0) → (d ≢ pos 0) × (i < free) → (w ≤ free) × lowest (Crowded w ds) (free - w)
+    pub room-short : {d : ℤ} → d ≡ getD ds i (pos 0) → (d ≢ pos 0) × (i < free) → (w ≤ free) × Lowest (Crowded w ds) (free - w)
     room-short {d} e (n, l) = ⊎-elim (λ z. absurd (omega arith)) pair (h .last)
       where
         -- a lower pair would stand under place i, by itself or with the highest nonzero there
@@ -104,7 +104,7 @@ module _ (w : ℕ) (ds : List ℤ) where
         lower x q m c (yes k) = omega (arith, c .near, h .apart q (c .other) (c .above) k (c .here) (c .there))
         lower x q m c (no k) = omega (arith, c .near, x .under, h .apart q (x .place) m (x .under) (c .here) (x .some))
 
-        pair : Last w ds free i → (w ≤ free) × lowest (Crowded w ds) (free - w)
+        pair : Last w ds free i → (w ≤ free) × Lowest (Crowded w ds) (free - w)
         pair x =
             let at : free - w ≡ x .place = omega (arith, x .is) in (
               omega (arith, x .is),

@@ -6,7 +6,7 @@ use mathlib.Core.List.{List}
 use Prim.Native.Nat.{ℕ, _+_}
 use lib.IntN.{ℤ, pos}
 use lib.ListN.{getD}
-use Rattle.meaning.specs.Refusals.{lowest}
+use Rattle.meaning.specs.Refusals.{Lowest}
 use Rattle.meaning.specs.Checking.{Crowded}
 use Rattle.judge.specs.declared.Spaced.{Spaced}
 use Rattle.judge.specs.declared.Spaced.the-variants.{Near, Apart}
@@ -22,5 +22,5 @@ Clear gap ds = (p : ℕ) → getD ds p (pos 0) ≢ pos 0 → getD ds (p + gap) (
 
 -- the lower place of the lowest crowded pair, or that there is none
 abbrev pub Spacing : ℕ → List ℤ → Spaced → Type 0
-Spacing w ds (Near p) = lowest (Crowded w ds) p
+Spacing w ds (Near p) = Lowest (Crowded w ds) p
 Spacing w ds Apart = (p : ℕ) → Crowded w ds p → ⊥

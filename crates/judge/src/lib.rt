@@ -8,22 +8,16 @@ ghost use lib.ListN.{length, getD};
 ghost use Rattle.meaning.specs.Scalars.{number, mostBytes};
 ghost use Rattle.meaning.specs.Digits.{mostPlaces, worth};
 ghost use Rattle.meaning.specs.Checking.{Crowded, checkRules, nonadjacentRules, Check};
+ghost use Rattle.digits.specs.Tallies.{told};
 ghost use Rattle.judge.specs.Tests.{Says};
 ghost use Rattle.signed.specs.Levels.{Raised};
 ghost use Rattle.judge.specs.Levels.{level, Stretch, Turned};
 ghost use Rattle.judge.specs.Spaces.{Freed, Clear, Spacing};
 use digits::Found;
+use digits::Tally;
 use scalar::MOST_BYTES;
 use width::Known;
 use width::Width;
-
-// What a check returns: 0, or the number of a refusal; the place where the refusal names one; and on acceptance the weight and the top.
-pub struct Verdict {
-    pub refusal: u8,
-    pub place: u16,
-    pub weight: u16,
-    pub top: u16,
-}
 
 // ---- worth
 // Digits and carries are kept this much above what they are: none is then below nought.
@@ -201,10 +195,10 @@ fn spacing(w: usize, digits: &[i8]) -> Spaced
 
 // ---- the calls
 // A refusal: 0 in every field but its number and its place.
-fn refused(number: u8, place: u16) -> Verdict
+fn refused(number: u8, place: u16) -> Tally
     ensures { λ r. ⌜ r ≡ record { refusal = number; place = place; weight = 0; top = 0 } ⌝ }
 {
-    Verdict {
+    Tally {
         refusal: number,
         place,
         weight: 0,
@@ -213,8 +207,8 @@ fn refused(number: u8, place: u16) -> Verdict
 }
 
 // The plain check.
-pub fn check(width: u8, scalar: &[u8], digits: &[i8]) -> Verdict
-    ensures { λ r. ⌜ Check (checkRules width (now (scalar .entry)) (now (digits .entry))) (now (digits .entry)) (r .refusal) (r .place) (r .weight) (r .top) ⌝ }
+pub fn check(width: u8, scalar: &[u8], digits: &[i8]) -> Tally
+    ensures { λ r. ⌜ Check (checkRules width (now (scalar .entry)) (now (digits .entry))) (now (digits .entry)) (told r) ⌝ }
 {
     let Known::As(known) = Width::known(width) else {
         return refused(2, 0);
@@ -231,7 +225,7 @@ pub fn check(width: u8, scalar: &[u8], digits: &[i8]) -> Verdict
             if !worth_is(scalar, digits) {
                 return refused(9, 0);
             }
-            Verdict {
+            Tally {
                 refusal: 0,
                 place: 0,
                 weight: count.weight as u16,
@@ -242,8 +236,8 @@ pub fn check(width: u8, scalar: &[u8], digits: &[i8]) -> Verdict
 }
 
 // The check of a string whose nonzero digits have to stand apart. Its own rule is the last, so what the plain check refuses stays refused.
-pub fn check_nonadjacent(width: u8, scalar: &[u8], digits: &[i8]) -> Verdict
-    ensures { λ r. ⌜ Check (nonadjacentRules width (now (scalar .entry)) (now (digits .entry))) (now (digits .entry)) (r .refusal) (r .place) (r .weight) (r .top) ⌝ }
+pub fn check_nonadjacent(width: u8, scalar: &[u8], digits: &[i8]) -> Tally
+    ensures { λ r. ⌜ Check (nonadjacentRules width (now (scalar .entry)) (now (digits .entry))) (now (digits .entry)) (told r) ⌝ }
 {
     let plain = check(width, scalar, digits);
     if plain.refusal != 0 {

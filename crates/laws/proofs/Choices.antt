@@ -68,3 +68,8 @@ not-below {a} {b} n = go (decLe b a)
     go : Dec (b ≤ a) → b ≤ a
     go (yes h) = h
     go (no h) = absurd (n (omega arith))
+
+-- a test that cannot fail passes
+pub passes : (b : Bool) → (T (not b) → ⊥) → T b
+passes true n = tt
+passes false n = absurd (n tt)

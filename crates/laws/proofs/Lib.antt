@@ -6,5 +6,7 @@ pub mod Shifts
 pub mod Residues
 pub mod Choices
 pub mod Stores
+pub mod Runs
+pub mod Parts
 pub mod Tables
 pub mod Signed

@@ -13,9 +13,13 @@ use Rattle.meaning.specs.Windows.{windowWorth, shrink, entryUnit, entryT
 use Rattle.meaning.specs.Wmof.{wmofUnder, wmof}
 use Rattle.meaning.specs.Closest.{larger, smaller, Favours}
 use Rattle.meaning.specs.Recoding.{marked, marksOf}
-use Rattle.meaning.specs.Taping.{loads, adds, down, tapeOf, stepped, valueFrom, tapeValue}
+use Rattle.meaning.specs.Words.{stepOf}
+use Rattle.meaning.specs.Walks.{taken, walked, tapeValue, doublings, additions}
+use Rattle.meaning.specs.Taping.{moves, down, tapeOf}
 use Rattle.meaning.specs.Reading.{digit, done, readAt}
-use Rattle.meaning.specs.Lines.{nibble, allHex, bytesOf, malformed, written, byteOf, digitBytes, acceptedBytes, linesOf}
+use Rattle.meaning.specs.Lines.{linesOf}
+use Rattle.meaning.specs.Hexadecimal.{nibble, allHex, bytesOf, written}
+use Rattle.meaning.specs.Frames.{malformed, byteOf, digitBytes, acceptedBytes}
 
 -- 13 as 1 0 -1 0 1, on the nine places of a byte
 thirteen : List ℤ
@@ -79,12 +83,21 @@ its-marks = refl
 
 -- load 1, double, double, subtract 1, double, double, add 1; its value is the worth
 its-tape : tapeOf thirteen ≡ 0x1000 ∷ 0 ∷ 0 ∷ 0x4000 ∷ 0 ∷ 0 ∷ 0x3000 ∷ []
-unfolding thirteen tapeOf down loads adds
+unfolding thirteen tapeOf down moves
 its-tape = refl
 
 its-value : tapeValue (tapeOf thirteen) ≡ pos 13
-unfolding thirteen tapeOf down loads adds valueFrom stepped
+unfolding thirteen tapeOf down moves walked taken stepOf
 its-value = refl
+
+-- four words double and two add or subtract; the load is neither
+its-doublings : doublings (tapeOf thirteen) ≡ 4
+unfolding thirteen tapeOf down moves doublings
+its-doublings = refl
+
+its-additions : additions (tapeOf thirteen) ≡ 2
+unfolding thirteen tapeOf down moves additions
+its-additions = refl
 
 -- a reader gives a digit a call, then done
 read-on : readAt (pos 1 ∷ negsuc 0 ∷ []) 1 ≡ digit (negsuc 0)

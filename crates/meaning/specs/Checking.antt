@@ -9,22 +9,22 @@ use lib.Dec.{T}
 use lib.IntN.{ℤ, pos}
 use lib.ListN.{length, getD}
 use Rattle.meaning.specs.Scalars.{number}
-use Rattle.meaning.specs.Digits.{mostPlaces, largest, inSet, worth, weight, top}
+use Rattle.meaning.specs.Digits.{mostPlaces, largest, inSet, worth, weight, top, Tally}
 use Rattle.meaning.specs.Refusals.{Rule, plain, lowest, First, granted, badWidth, longScalar}
 
 -- ---- refusals
 -- 7: digit string over 529 places
 abbrev pub longString : List ℤ → Rule
-longString ds = (7, plain (mostPlaces < length ds))
+longString ds = plain 7 (mostPlaces < length ds)
 
--- the digit at place p is not in D_w
-pub record BadDigit (w : ℕ) (ds : List ℤ) (p : ℕ) : Type 0 where
+-- the digit at place p is not in the set of the largest digit m
+pub record BadDigit (m : ℕ) (ds : List ℤ) (p : ℕ) : Type 0 where
   pub within : p < length ds
-  pub bad : T (not (inSet (largest w) (getD ds p (pos 0))))
+  pub bad : T (not (inSet m (getD ds p (pos 0))))
 
--- 8: a digit not in D_w; place is the lowest such
+-- 8: a digit not in the set; place is the lowest such
 abbrev pub badDigit : ℕ → List ℤ → Rule
-badDigit w ds = (8, lowest (BadDigit w ds))
+badDigit m ds = lowest 8 (BadDigit m ds)
 
 -- the digit at place p and a higher one fewer than w places away are both nonzero
 pub record Crowded (w : ℕ) (ds : List ℤ) (p : ℕ) : Type 0 where
@@ -36,14 +36,14 @@ pub record Crowded (w : ℕ) (ds : List ℤ) (p : ℕ) : Type 0 where
 
 -- 2, 3, 7, 8, then 9: string not worth the scalar
 abbrev pub checkRules : (w : ℕ) (s : List ℕ) (ds : List ℤ) → List Rule
-checkRules w s ds = badWidth w ∷ longScalar s ∷ longString ds ∷ badDigit w ds ∷ (9, plain (worth ds ≢ pos (number s))) ∷ []
+checkRules w s ds = badWidth w ∷ longScalar s ∷ longString ds ∷ badDigit (largest w) ds ∷ plain 9 (worth ds ≢ pos (number s)) ∷ []
 
 -- the nonadjacent check adds 10: two nonzero digits fewer than w places apart; place is the lower of the lowest such pair
 abbrev pub nonadjacentRules : (w : ℕ) (s : List ℕ) (ds : List ℤ) → List Rule
-nonadjacentRules w s ds = checkRules w s ds ++ ((10, lowest (Crowded w ds)) ∷ [])
+nonadjacentRules w s ds = checkRules w s ds ++ (lowest 10 (Crowded w ds) ∷ [])
 
--- ---- what a check by these rules returns: refusal r at place p, weight k, top t
-pub record Check (rules : List Rule) (ds : List ℤ) (r p k t : ℕ) : Type 0 where
-  pub first : First rules r p
-  pub weight-is : k ≡ granted r (weight ds)
-  pub top-is : t ≡ granted r (top ds)
+-- ---- what a check by these rules returns
+pub record Check (rules : List Rule) (ds : List ℤ) (a : Tally) : Type 0 where
+  pub first : First rules (a .refusal) (a .place)
+  pub weight-is : a .weight ≡ granted (a .refusal) (weight ds)
+  pub top-is : a .top ≡ granted (a .refusal) (top ds)

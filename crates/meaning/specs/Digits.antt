@@ -4,7 +4,7 @@ use mathlib.Core.Path.{_≡_}
 use mathlib.Core.Logic.{_≢_}
 use mathlib.Core.Bool.{Bool, true, _&&_, _||_}
 use mathlib.Core.List.{List, [], _∷_}
-use Prim.Native.Nat.{ℕ, zero, suc, _+_, _-_, _%_, _^_, _<_}
+use Prim.Native.Nat.{ℕ, zero, suc, _+_, _-_, _/_, _%_, _^_, _<_}
 use lib.Dec.{leb, eqb}
 use lib.IntN.{ℤ, pos, negsuc, natAbs, _+ℤ_, _*ℤ_}
 use lib.ListN.{getD}
@@ -29,6 +29,10 @@ inSet m d = eqb (natAbs d) 0 || (eqb (natAbs d % 2) 1 && leb (natAbs d) m)
 -- the largest digit of D_w, whose odd digits have an absolute value below 2 ^ (w - 1)
 abbrev pub largest : ℕ → ℕ
 largest w = 2 ^ (w - 1) - 1
+
+-- how many positive digits the set of the largest digit m has: the chip has an entry for each
+abbrev pub entries : ℕ → ℕ
+entries m = (m + 1) / 2
 
 -- every digit of the string is in the set
 unfoldable pub allIn : ℕ → List ℤ → Bool
@@ -61,6 +65,13 @@ over here (suc t) = suc (suc t)
 unfoldable pub top : List ℤ → ℕ
 top [] = 0
 top (d ∷ ds) = over (nonzero d) (top ds)
+
+-- what recode and the checks answer: the number of a refusal and its place, and on acceptance the weight and the top
+pub record Tally : Type 0 where
+  pub refusal : ℕ
+  pub place : ℕ
+  pub weight : ℕ
+  pub top : ℕ
 
 -- any w consecutive places hold at most one nonzero: of two places fewer than w apart one holds 0
 pub record Apart (w : ℕ) (ds : List ℤ) : Type 0 where

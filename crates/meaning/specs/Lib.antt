@@ -10,8 +10,12 @@ pub mod Forms
 pub mod Refusals
 pub mod Recoding
 pub mod Checking
+pub mod Words
+pub mod Walks
 pub mod Taping
 pub mod Running
 pub mod Reading
 pub mod Searching
 pub mod Lines
+pub mod Hexadecimal
+pub mod Frames

@@ -7,7 +7,7 @@ use Prim.Native.Nat.{ℕ, zero, suc, _+_, _*_, _<_}
 use lib.IntN.{ℤ}
 use lib.ListN.{length, drop}
 use Rattle.meaning.specs.Scalars.{number, bitCount}
-use Rattle.meaning.specs.Digits.{leastWidth, mostWidth, nonzero, weight, top, listed}
+use Rattle.meaning.specs.Digits.{leastWidth, mostWidth, nonzero, weight, top, listed, Tally}
 use Rattle.meaning.specs.Forms.{Form}
 use Rattle.meaning.specs.Refusals.{Rule, plain, First, longScalar}
 
@@ -31,33 +31,33 @@ marksOf ds = listed (λ q. marked 64 (drop (64 * q) ds)) 0 markWords
 -- 5: marks buffer under 9 words; 6: a digit would be needed above place n, so that no string of n + 1 places has the form
 abbrev pub recodeRules : (form w : ℕ) (s : List ℕ) (places words : ℕ) → List Rule
 recodeRules form w s places words =
-    (1, plain ((form < 1) ⊎ (4 < form)))
-    ∷ (2, plain (((w < leastWidth) ⊎ (mostWidth < w)) ⊎ ((form ≡ 1) × (w ≢ 2))))
+    plain 1 ((form < 1) ⊎ (4 < form))
+    ∷ plain 2 (((w < leastWidth) ⊎ (mostWidth < w)) ⊎ ((form ≡ 1) × (w ≢ 2)))
     ∷ longScalar s
-    ∷ (4, plain (places < bitCount s + 1))
-    ∷ (5, plain (words < markWords))
-    ∷ (6, plain ((ds : List ℤ) → Form form w (number s) (bitCount s) ds → ⊥))
+    ∷ plain 4 (places < bitCount s + 1)
+    ∷ plain 5 (words < markWords)
+    ∷ plain 6 ((ds : List ℤ) → Form form w (number s) (bitCount s) ds → ⊥)
     ∷ []
 
 -- ---- what the call returns and leaves
 -- on acceptance: the digits of the form and then what stood past them, the marks of those digits likewise, their weight and their top
-pub record Recoded (form w : ℕ) (s : List ℕ) (digits₀ : List ℤ) (marks₀ : List ℕ) (k t : ℕ) (digits : List ℤ) (marks : List ℕ) : Type 0 where
+pub record Recoded (form w : ℕ) (s : List ℕ) (digits₀ : List ℤ) (marks₀ : List ℕ) (a : Tally) (digits : List ℤ) (marks : List ℕ) : Type 0 where
   pub string : List ℤ
   pub formed : Form form w (number s) (bitCount s) string
   pub digits-are : digits ≡ string ++ drop (bitCount s + 1) digits₀
   pub marks-are : marks ≡ marksOf string ++ drop markWords marks₀
-  pub weight-is : k ≡ weight string
-  pub top-is : t ≡ top string
+  pub weight-is : a .weight ≡ weight string
+  pub top-is : a .top ≡ top string
 
 -- in a refusal: 0 in both fields, and both buffers as lent
-pub record Unrecoded (digits₀ : List ℤ) (marks₀ : List ℕ) (k t : ℕ) (digits : List ℤ) (marks : List ℕ) : Type 0 where
+pub record Unrecoded (digits₀ : List ℤ) (marks₀ : List ℕ) (a : Tally) (digits : List ℤ) (marks : List ℕ) : Type 0 where
   pub digits-are : digits ≡ digits₀
   pub marks-are : marks ≡ marks₀
-  pub weight-is : k ≡ 0
-  pub top-is : t ≡ 0
+  pub weight-is : a .weight ≡ 0
+  pub top-is : a .top ≡ 0
 
--- the call: refusal r at place p, weight k, top t, and the two buffers afterwards
-pub record Recode (form w : ℕ) (s : List ℕ) (digits₀ : List ℤ) (marks₀ : List ℕ) (r p k t : ℕ) (digits : List ℤ) (marks : List ℕ) : Type 0 where
-  pub first : First (recodeRules form w s (length digits₀) (length marks₀)) r p
-  pub accepted : r ≡ 0 → Recoded form w s digits₀ marks₀ k t digits marks
-  pub refused : r ≢ 0 → Unrecoded digits₀ marks₀ k t digits marks
+-- the call, and the two buffers afterwards
+pub record Recode (form w : ℕ) (s : List ℕ) (digits₀ : List ℤ) (marks₀ : List ℕ) (a : Tally) (digits : List ℤ) (marks : List ℕ) : Type 0 where
+  pub first : First (recodeRules form w s (length digits₀) (length marks₀)) (a .refusal) (a .place)
+  pub accepted : a .refusal ≡ 0 → Recoded form w s digits₀ marks₀ a digits marks
+  pub refused : a .refusal ≢ 0 → Unrecoded digits₀ marks₀ a digits marks

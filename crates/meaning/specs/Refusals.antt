@@ -8,22 +8,33 @@ use lib.ListN.{length}
 use Rattle.meaning.specs.Scalars.{mostBytes}
 use Rattle.meaning.specs.Digits.{leastWidth, mostWidth}
 
--- a rule: a refusal's number, and the place at which the rule applies
-abbrev pub Rule : Type 1
-Rule = ℕ × (ℕ → Type 0)
+-- a rule: a refusal's number, and when it is given: plainly, and the place is 0; or where something holds of a place, and the place is the lowest such
+pub data Rule : Type 1 where
+  plain : (number : ℕ) → Type 0 → Rule
+  lowest : (number : ℕ) → (ℕ → Type 0) → Rule
 
--- given exactly when C holds, at no place: the place is 0
-abbrev pub plain : Type 0 → ℕ → Type 0
-plain C p = C × (p ≡ 0)
+abbrev pub numberOf : Rule → ℕ
+numberOf (plain n C) = n
+numberOf (lowest n C) = n
 
--- given exactly when C holds of some place: the place is the lowest such
-abbrev pub lowest : (ℕ → Type 0) → ℕ → Type 0
-lowest C p = C p × ((q : ℕ) → q < p → C q → ⊥)
+-- C holds of p, and of no lower place
+abbrev pub Lowest : (ℕ → Type 0) → ℕ → Type 0
+Lowest C p = C p × ((q : ℕ) → q < p → C q → ⊥)
+
+-- the rule applies, at place p
+abbrev pub Applies : Rule → ℕ → Type 0
+Applies (plain n C) p = C × (p ≡ 0)
+Applies (lowest n C) p = Lowest C p
+
+-- it does not apply
+abbrev pub Fails : Rule → Type 0
+Fails (plain n C) = C → ⊥
+Fails (lowest n C) = (p : ℕ) → C p → ⊥
 
 -- r and p are the number and the place of the first rule that applies, and both 0 where none does
 abbrev pub First : List Rule → ℕ → ℕ → Type 0
 First [] r p = (r ≡ 0) × (p ≡ 0)
-First (rule ∷ rules) r p = ((r ≡ rule .0) × rule .1 p) ⊎ (((q : ℕ) → rule .1 q → ⊥) × First rules r p)
+First (x ∷ xs) r p = ((r ≡ numberOf x) × Applies x p) ⊎ (Fails x × First xs r p)
 
 -- a field beside the number and the place: x on acceptance, 0 in a refusal
 abbrev pub granted : ℕ → ℕ → ℕ
@@ -38,8 +49,8 @@ kept (suc r) written lent = lent
 -- ---- rules that several calls have
 -- 2: width outside 2..8
 abbrev pub badWidth : ℕ → Rule
-badWidth w = (2, plain ((w < leastWidth) ⊎ (mostWidth < w)))
+badWidth w = plain 2 ((w < leastWidth) ⊎ (mostWidth < w))
 
 -- 3: scalar over 66 bytes
 abbrev pub longScalar : List ℕ → Rule
-longScalar s = (3, plain (mostBytes < length s))
+longScalar s = plain 3 (mostBytes < length s)

@@ -16,7 +16,7 @@ searchPlaces = 9
 
 -- 2: width not 2 or 3; 3: number over 127
 abbrev pub searchRules : (number w : ℕ) → List Rule
-searchRules number w = (2, plain ((w ≢ 2) × (w ≢ 3))) ∷ (3, plain (127 < number)) ∷ []
+searchRules number w = plain 2 ((w ≢ 2) × (w ≢ 3)) ∷ plain 3 (127 < number) ∷ []
 
 -- ds is a string of D_w digits on this many places that is worth z
 pub record Spells (w places : ℕ) (z : ℤ) (ds : List ℤ) : Type 0 where
@@ -31,8 +31,12 @@ pub record LeastWeight (w places : ℕ) (z : ℤ) (k : ℕ) : Type 0 where
   pub weight-is : weight string ≡ k
   pub least : (ds : List ℤ) → Spells w places z ds → k ≤ weight ds
 
--- the call: refusal r, weight k
-pub record Search (number w : ℕ) (r k : ℕ) : Type 0 where
-  pub first : First (searchRules number w) r 0
-  pub accepted : r ≡ 0 → LeastWeight w searchPlaces (pos number) k
-  pub refused : r ≢ 0 → k ≡ 0
+-- what the call answers
+pub record Searched : Type 0 where
+  pub refusal : ℕ
+  pub weight : ℕ
+
+pub record Search (number w : ℕ) (a : Searched) : Type 0 where
+  pub first : First (searchRules number w) (a .refusal) 0
+  pub accepted : a .refusal ≡ 0 → LeastWeight w searchPlaces (pos number) (a .weight)
+  pub refused : a .refusal ≢ 0 → a .weight ≡ 0

@@ -2,22 +2,17 @@
 -- scalar; and running the tape of such a string gives the scalar times the base, as a residue of the given modulus. From the calls' promises alone. Assumes nothing.
 use mathlib.Core.Path.{_≡_, sym, ap, subst, _∙_}
 use mathlib.Core.List.{List}
-use Prim.Native.Nat.{ℕ, _+_, _-_, _^_, _<_, _≤_}
+use Prim.Native.Nat.{ℕ, _+_, _^_, _<_, _≤_}
 use lib.IntN.{ℤ, pos, _*ℤ_}
 use lib.ListN.{length, take}
 use lib.Seq.{take-at}
 use Rattle.meaning.specs.Scalars.{number, bitCount}
-use Rattle.meaning.specs.Digits.{worth}
+use Rattle.meaning.specs.Digits.{worth, Tally}
 use Rattle.meaning.specs.Forms.{Form}
-use Rattle.meaning.specs.Refusals.{First}
-use Rattle.meaning.specs.Recoding.{recodeRules}
 use Rattle.meaning.specs.Checking.{checkRules}
-use Rattle.meaning.specs.Running.{Residue}
+use Rattle.meaning.specs.Running.{Residue, Run, Ran}
 use Rattle.forms.proofs.Forms.{form-length, form-worth}
 use Rattle.scalar.proofs.Bytes.{Bytes, number-lt}
-use Rattle.judge.specs.declared.Verdict.{Verdict}
-use Rattle.run.specs.declared.Ran.{Ran}
-use Rattle.run.specs.Outcomes.{refusalOf, residueOf, Promise}
 use Rattle.run.proofs.Together.{together}
 use Rattle.promises.proofs.Recode as Recoding
 use Rattle.promises.proofs.Recode.{accepted-width}
@@ -30,7 +25,7 @@ module _ {form w : ℕ} {s : List ℕ} {digits₀ : List ℤ} {marks₀ : List �
   small = number-lt s bytes
 
   two : 2 ≤ w
-  two = accepted-width form w s (length digits₀) (length marks₀) (o .tally .place) (subst (λ r. First (recodeRules form w s (length digits₀) (length marks₀)) r (o .tally .place)) z (K .first))
+  two = accepted-width form w s (length digits₀) (length marks₀) (o .tally .place) (K .first) z
 
   -- the n + 1 digits of an accepted recode are the string that its promise speaks of
   pub recoded-string : take (bitCount s + 1) (o .digits) ≡ K .accepted z .string
@@ -47,16 +42,16 @@ module _ {form w : ℕ} {s : List ℕ} {digits₀ : List ℤ} {marks₀ : List �
   recoded-worth = form-worth w (number s) (bitCount s) two small form (take (bitCount s + 1) (o .digits)) recoded-form
 
 -- the check says yes for exactly the legal strings that are worth the scalar
-pub check-says : (w : ℕ) (s : List ℕ) (ds : List ℤ) (v : Verdict) → Checking.Keeps (checkRules w s ds) ds v → (v .refusal ≡ 0 → Checking.Legal w s ds) × (Checking.Legal w s ds → v .refusal ≡ 0)
-check-says w s ds v K = (Checking.check-yes w s ds v K, λ L. ap (λ (x : Verdict). x .refusal) (Checking.check-yes-only w s ds L v K))
+pub check-says : (w : ℕ) (s : List ℕ) (ds : List ℤ) (v : Tally) → Checking.Keeps (checkRules w s ds) ds v → (v .refusal ≡ 0 → Checking.Legal w s ds) × (Checking.Legal w s ds → v .refusal ≡ 0)
+check-says w s ds v K = (Checking.check-yes w s ds v K, λ L. ap (λ (x : Tally). x .refusal) (Checking.check-yes-only w s ds L v K))
 
 -- running the tape of a string that is worth the scalar gives the scalar times the base
 pub run-gives-scalar : {w m g : ℕ} {ds : List ℤ} {words₀ multiples₀ multiples : List ℕ} (N : ℕ) → worth ds ≡ pos N → (t : Taping.Outcome) → Taping.Keeps w ds words₀ t → t .taped .refusal ≡ 0
-    → (r : Ran) → Promise w (take (t .taped .words) (t .words)) m g multiples₀ r multiples → refusalOf (r .outcome) ≡ 0 → Residue m (pos N *ℤ pos g) (residueOf (r .outcome))
-run-gives-scalar {m = m} {g = g} N e t K z r P y = subst (λ v. Residue m (v *ℤ pos g) (residueOf (r .outcome))) e (together K z P y .residue-is)
+    → (r : Ran) → Run w (take (t .taped .words) (t .words)) m g multiples₀ r multiples → r .refusal ≡ 0 → Residue m (pos N *ℤ pos g) (r .residue)
+run-gives-scalar {m = m} {g = g} N e t K z r P y = subst (λ v. Residue m (v *ℤ pos g) (r .residue)) e (together K z P y .residue-is)
 
 -- so of a string that the check accepted
-pub checked-run : {w m g : ℕ} {ds : List ℤ} {words₀ multiples₀ multiples : List ℕ} (s : List ℕ) (v : Verdict) → Checking.Keeps (checkRules w s ds) ds v → v .refusal ≡ 0
+pub checked-run : {w m g : ℕ} {ds : List ℤ} {words₀ multiples₀ multiples : List ℕ} (s : List ℕ) (v : Tally) → Checking.Keeps (checkRules w s ds) ds v → v .refusal ≡ 0
     → (t : Taping.Outcome) → Taping.Keeps w ds words₀ t → t .taped .refusal ≡ 0
-    → (r : Ran) → Promise w (take (t .taped .words) (t .words)) m g multiples₀ r multiples → refusalOf (r .outcome) ≡ 0 → Residue m (pos (number s) *ℤ pos g) (residueOf (r .outcome))
+    → (r : Ran) → Run w (take (t .taped .words) (t .words)) m g multiples₀ r multiples → r .refusal ≡ 0 → Residue m (pos (number s) *ℤ pos g) (r .residue)
 checked-run {w = w} {ds = ds} s v C c t K z r P y = run-gives-scalar (number s) (Checking.check-yes w s ds v C c .worth-is) t K z r P y

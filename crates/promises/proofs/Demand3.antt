@@ -1,7 +1,7 @@
 -- Demand 3. For wNAF, wMOF and the closest form at a width from 2 to 8: no finite string over the width's digits, of any length, that is worth the scalar has fewer
 -- nonzero digits; with n bits lent there are at most (n + w) / w of them, rounded down; the tape holds one addition or subtraction fewer than that number, none for zero, and
 -- one doubling for each place under the highest nonzero digit; and the run does those steps and reports them. From the calls' promises alone. Assumes nothing.
-use mathlib.Core.Path.{_≡_, ap, subst, _∙_}
+use mathlib.Core.Path.{_≡_, ap, _∙_}
 use mathlib.Core.List.{List}
 use Prim.Native.Nat.{ℕ, _+_, _-_, _/_, _^_, _<_, _≤_}
 use native.Mathlib.Omega.{arith}
@@ -10,16 +10,14 @@ use lib.IntN.{ℤ, pos}
 use lib.ListN.{length, take}
 use Rattle.meaning.specs.Scalars.{number, bitCount}
 use Rattle.meaning.specs.Digits.{worth, weight, top, allIn, largest}
-use Rattle.meaning.specs.Refusals.{First}
-use Rattle.meaning.specs.Recoding.{recodeRules}
-use Rattle.meaning.specs.Taping.{doublings, additions}
+use Rattle.meaning.specs.Walks.{doublings, additions}
+use Rattle.meaning.specs.Running.{Run, Ran}
 use Rattle.forms.proofs.Forms.{form-least, form-bound}
 use Rattle.forms.proofs.Refusals.{granted-all}
-use Rattle.tape.proofs.Refusals.{accepted, written-words}
-use Rattle.tape.proofs.Tapes.{tape-doublings, tape-additions}
+use Rattle.tape.proofs.Refusals.{Accepted, accepted, written-words}
+use Rattle.width.proofs.Widths.{largest-sized}
+use Rattle.walk.proofs.Tapes.{Faithful, faithful}
 use Rattle.scalar.proofs.Bytes.{Bytes, number-lt}
-use Rattle.run.specs.declared.Ran.{Ran}
-use Rattle.run.specs.Outcomes.{refusalOf, Promise}
 use Rattle.run.proofs.Together.{together}
 use Rattle.promises.proofs.Recode as Recoding
 use Rattle.promises.proofs.Recode.{accepted-width}
@@ -31,32 +29,37 @@ module _ {form w : ℕ} {s : List ℕ} {digits₀ : List ℤ} {marks₀ : List �
   small = number-lt s bytes
 
   two : 2 ≤ w
-  two = accepted-width form w s (length digits₀) (length marks₀) (o .tally .place) (subst (λ r. First (recodeRules form w s (length digits₀) (length marks₀)) r (o .tally .place)) z (K .first))
+  two = accepted-width form w s (length digits₀) (length marks₀) (o .tally .place) (K .first) z
 
   -- the weight that recode reports is the least of any string of D_w digits, whatever its length, that is worth the scalar
   pub recoded-least : (es : List ℤ) → T (allIn (largest w) es) → worth es ≡ pos (number s) → o .tally .weight ≤ weight es
   recoded-least es t e =
       let A = K .accepted z in
-      omega (arith, A .weight-is, form-least w (number s) (bitCount s) two small form light (A .string) (A .formed) es t e)
+      omega (arith, A .weight-is, form-least w (number s) (bitCount s) two small form (A .string) (A .formed) light es t e)
 
   -- and with n bits lent it is at most (n + w) / w
   pub recoded-bound : o .tally .weight ≤ (bitCount s + w) / w
   recoded-bound =
       let A = K .accepted z in
-      omega (arith, A .weight-is, form-bound w (number s) (bitCount s) two small form light (A .string) (A .formed))
+      omega (arith, A .weight-is, form-bound w (number s) (bitCount s) two small form (A .string) (A .formed) light)
 
 module _ {w : ℕ} {ds : List ℤ} {words₀ : List ℕ} (t : Taping.Outcome) (K : Taping.Keeps w ds words₀ t) (z : t .taped .refusal ≡ 0) where
+  -- what its tape is
+  is : Accepted w ds words₀
+  is = accepted K z
+
+  tape : Faithful (largest w) (largest-sized (is .wide) .0) (largest-sized (is .wide) .1) ds
+  tape = faithful (largest w) (largest-sized (is .wide) .0) (largest-sized (is .wide) .1) ds (is .sound)
+
   -- the tape's additions: one fewer than the nonzero digits, none for zero; they are its words of code 3 or 4
   pub taped-additions : (t .taped .additions ≡ weight ds - 1) × (additions (take (t .taped .words) (t .words)) ≡ weight ds - 1)
-  taped-additions =
-      let s = accepted K z in
-      (K .additions-are ∙ granted-all (t .taped .refusal) (weight ds - 1) z, ap additions (written-words K z) ∙ tape-additions w (s .lawful) ds (s .sound))
+  taped-additions = (K .additions-are ∙ granted-all (t .taped .refusal) (weight ds - 1) z, ap additions (written-words K z) ∙ tape .additions-are)
 
   -- its doublings: one for each place under the highest nonzero digit; they are its words of code 0
   pub taped-doublings : (t .taped .doublings ≡ top ds - 1) × (doublings (take (t .taped .words) (t .words)) ≡ top ds - 1)
-  taped-doublings = (K .doublings-are ∙ granted-all (t .taped .refusal) (top ds - 1) z, ap doublings (written-words K z) ∙ tape-doublings ds)
+  taped-doublings = (K .doublings-are ∙ granted-all (t .taped .refusal) (top ds - 1) z, ap doublings (written-words K z) ∙ tape .doublings-are)
 
   -- the run does those steps and reports them
-  pub run-reports : {m g : ℕ} {multiples₀ multiples : List ℕ} (r : Ran) → Promise w (take (t .taped .words) (t .words)) m g multiples₀ r multiples → refusalOf (r .outcome) ≡ 0
+  pub run-reports : {m g : ℕ} {multiples₀ multiples : List ℕ} (r : Ran) → Run w (take (t .taped .words) (t .words)) m g multiples₀ r multiples → r .refusal ≡ 0
       → (r .doublings ≡ top ds - 1) × (r .additions ≡ weight ds - 1)
   run-reports r P y = let d = together K z P y in (d .doublings-are, d .additions-are)

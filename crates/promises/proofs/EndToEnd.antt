@@ -1,45 +1,40 @@
 -- From a scalar to a residue, and from a string made elsewhere to one, through all the calls by their promises alone. No acceptance is assumed but the first: what recode
 -- or the check accepted, the checks, tape and run accept as well. Assumes nothing.
-use mathlib.Core.Path.{_≡_, refl, sym, ap, subst, _∙_}
+use mathlib.Core.Path.{_≡_, sym, ap, subst, _∙_}
 use mathlib.Core.Logic.{_≢_, inl, inr}
 use mathlib.Core.List.{List}
-use Prim.Native.Nat.{ℕ, _+_, _-_, _^_, _<_, _≤_}
+use Prim.Native.Nat.{ℕ, _+_, _-_, _≤_}
 use native.Mathlib.Omega.{arith}
 use native.Mathlib.Decide.{ℕ-discrete}
 use lib.IntN.{ℤ, pos, _*ℤ_}
 use lib.ListN.{length, take}
 use Rattle.meaning.specs.Scalars.{number, bitCount}
-use Rattle.meaning.specs.Digits.{worth, weight, top, Apart}
+use Rattle.meaning.specs.Digits.{largest, entries, weight, top, Tally}
 use Rattle.meaning.specs.Wnaf.{Wnaf}
-use Rattle.meaning.specs.Forms.{Form}
+use Rattle.meaning.specs.Forms.{Has, asked, Form}
 use Rattle.meaning.specs.Recoding.{recodeRules}
 use Rattle.meaning.specs.Checking.{checkRules, nonadjacentRules}
-use Rattle.meaning.specs.Taping.{mostWords, tapeRules}
-use Rattle.meaning.specs.Running.{entries, Residue}
-use Rattle.forms.proofs.Refusals.{first-only}
+use Rattle.meaning.specs.Words.{mostWords}
+use Rattle.meaning.specs.Taping.{tapeRules}
+use Rattle.meaning.specs.Running.{Residue, Run, Ran}
+use Rattle.forms.proofs.Refusals.{Clear, first-only, first-none, clear}
 use Rattle.forms.proofs.Forms.{form-length, form-digits}
 use Rattle.scalar.proofs.Bytes.{Bytes, number-lt}
 use Rattle.laws.proofs.Choices.{not-below}
-use Rattle.width.proofs.Widths.{not-plain}
-use Rattle.tape.proofs.Lengths.{tape-fits}
-use Rattle.judge.specs.declared.Verdict.{Verdict}
-use Rattle.run.specs.declared.Ran.{Ran}
-use Rattle.run.specs.Outcomes.{refusalOf, residueOf, Promise}
+use Rattle.walk.proofs.Lengths.{tape-fits}
 use Rattle.run.proofs.Together.{together-accepted, together}
-use Rattle.promises.proofs.Rules.{recode-rises, tape-tells}
-use Rattle.promises.proofs.Exactly.{None, none-first, first-none}
 use Rattle.promises.proofs.Recode as Recoding
 use Rattle.promises.proofs.Tape as Taping
 use Rattle.promises.proofs.Check as Checking
-use Rattle.promises.proofs.Check.{Legal, legal-none, check-yes, check-yes-only, nonadjacent-yes-only}
+use Rattle.promises.proofs.Check.{Legal, legal-clear, check-yes, check-yes-only, nonadjacent-yes-only}
 use Rattle.promises.proofs.Demand2.{recoded-string, recoded-form, recoded-worth}
 use Rattle.promises.proofs.Demand3.{taped-additions, taped-doublings}
 
 -- ---- a legal string's tape and its run
 -- what the run of a tape reports of the number N times the base, with a string's counts
 pub record Ends (N m g k t : ℕ) (r : Ran) : Type 0 where
-  pub accepted : refusalOf (r .outcome) ≡ 0
-  pub residue-is : Residue m (pos N *ℤ pos g) (residueOf (r .outcome))
+  pub accepted : r .refusal ≡ 0
+  pub residue-is : Residue m (pos N *ℤ pos g) (r .residue)
   pub doublings-are : r .doublings ≡ t - 1
   pub additions-are : r .additions ≡ k - 1
 
@@ -47,19 +42,19 @@ module _ {w : ℕ} {s : List ℕ} {ds : List ℤ} (L : Legal w s ds) {words₀ :
   -- 1,057 words are room for every string's tape
   pub legal-taped : t .taped .refusal ≡ 0
   legal-taped =
-      let (width, (_, (_, (sound, _)))) = legal-none w s ds L in
-      first-only (tapeRules w ds (length words₀)) (tape-tells w ds (length words₀)) _ _ 0 0 (K .first)
-      (none-first (tapeRules w ds (length words₀)) (width, (not-plain (λ h. omega (arith, L .short)), (sound, (not-plain (λ h. omega (arith, tape-fits ds (L .short))), tt))))) .0
+      let (width, (_, (_, (sound, _)))) = legal-clear w s ds L in
+      first-only (tapeRules w ds (length words₀)) (K .first)
+      (first-none (tapeRules w ds (length words₀)) (width, ((λ h. omega (arith, L .short)), (sound, ((λ h. omega (arith, tape-fits ds (L .short))), tt))))) .0
 
   -- and its run is refused only where the modulus is 0 or the multiples have no room
-  pub legal-ran : {m g : ℕ} {multiples₀ multiples : List ℕ} → m ≢ 0 → entries w ≤ length multiples₀ → (r : Ran) → Promise w (take (t .taped .words) (t .words)) m g multiples₀ r multiples
+  pub legal-ran : {m g : ℕ} {multiples₀ multiples : List ℕ} → m ≢ 0 → entries (largest w) ≤ length multiples₀ → (r : Ran) → Run w (take (t .taped .words) (t .words)) m g multiples₀ r multiples
       → Ends (number s) m g (weight ds) (top ds) r
   legal-ran {m} {g} some fits r P =
       let e = together-accepted K legal-taped P some fits in
       let d = together K legal-taped P e in
       record {
         accepted = e;
-        residue-is = subst (λ z. Residue m (z *ℤ pos g) (residueOf (r .outcome))) (L .worth-is) (d .residue-is);
+        residue-is = subst (λ z. Residue m (z *ℤ pos g) (r .residue)) (L .worth-is) (d .residue-is);
         doublings-are = d .doublings-are;
         additions-are = d .additions-are;
       }
@@ -71,18 +66,18 @@ module _ {form w : ℕ} {s : List ℕ} {digits₀ : List ℤ} {marks₀ : List �
   abbrev pub string : List ℤ
   string = take (bitCount s + 1) (o .digits)
 
-  none : None (recodeRules form w s (length digits₀) (length marks₀))
-  none = first-none 0 (recodeRules form w s (length digits₀) (length marks₀)) (recode-rises form w s (length digits₀) (length marks₀)) (o .tally .refusal) (o .tally .place) (K .first) z
+  none : Clear (recodeRules form w s (length digits₀) (length marks₀))
+  none = clear (recodeRules form w s (length digits₀) (length marks₀)) tt (o .tally .refusal) (o .tally .place) (K .first) z
 
   two : 2 ≤ w
-  two = not-below (λ l. none .1 .0 0 (inl (inl l), refl))
+  two = not-below (λ l. none .1 .0 (inl (inl l)))
 
   narrow : form ≡ 1 → w ≡ 2
   narrow e = go (ℕ-discrete w 2)
     where
       go : Dec (w ≡ 2) → w ≡ 2
       go (yes h) = h
-      go (no h) = absurd (none .1 .0 0 (inr (e, h), refl))
+      go (no h) = absurd (none .1 .0 (inr (e, h)))
 
   formed : Form form w (number s) (bitCount s) string
   formed = recoded-form o K z bytes
@@ -91,12 +86,12 @@ module _ {form w : ℕ} {s : List ℕ} {digits₀ : List ℤ} {marks₀ : List �
   pub recoded-legal : Legal w s string
   recoded-legal =
       let small = number-lt s bytes in
-      let few = not-below (λ l. none .1 .1 .0 0 (l, refl)) in
+      let few = not-below (none .1 .1 .0) in
       record {
-        lawful = (two, not-below (λ l. none .1 .0 0 (inl (inr l), refl)));
+        wide = (two, not-below (λ l. none .1 .0 (inl (inr l))));
         few = few;
         short = omega (arith, few, form-length w (number s) (bitCount s) two small form string formed);
-        digits = form-digits w (number s) (bitCount s) two small form narrow string formed;
+        digits = form-digits w (number s) (bitCount s) two small form string formed narrow;
         worth-is = recoded-worth o K z bytes;
       }
 
@@ -108,19 +103,19 @@ module _ {form w : ℕ} {s : List ℕ} {digits₀ : List ℤ} {marks₀ : List �
   top-is = ap top (recoded-string o K z bytes) ∙ sym (K .accepted z .top-is)
 
   -- what a check that says yes answers: the same weight and top
-  abbrev Yes : Verdict → Type 0
+  abbrev Yes : Tally → Type 0
   Yes v = v ≡ record { refusal = 0; place = 0; weight = o .tally .weight; top = o .tally .top }
 
-  counted : {v : Verdict} → v ≡ record { refusal = 0; place = 0; weight = weight string; top = top string } → Yes v
+  counted : {v : Tally} → v ≡ record { refusal = 0; place = 0; weight = weight string; top = top string } → Yes v
   counted e = e ∙ ap (λ k. record { refusal = 0; place = 0; weight = k; top = top string }) weight-is ∙ ap (λ t. record { refusal = 0; place = 0; weight = o .tally .weight; top = t }) top-is
 
   -- the plain check says yes of every form's digits
-  pub recoded-checked : (v : Verdict) → Checking.Keeps (checkRules w s string) string v → Yes v
+  pub recoded-checked : (v : Tally) → Checking.Keeps (checkRules w s string) string v → Yes v
   recoded-checked v C = counted (check-yes-only w s string recoded-legal v C)
 
   -- and the nonadjacent check of wNAF's
-  pub recoded-nonadjacent : form ≡ 2 → (v : Verdict) → Checking.Keeps (nonadjacentRules w s string) string v → Yes v
-  unfolding Form
+  pub recoded-nonadjacent : form ≡ 2 → (v : Tally) → Checking.Keeps (nonadjacentRules w s string) string v → Yes v
+  unfolding asked Has
   recoded-nonadjacent e v C =
       let F : Wnaf w (number s) (bitCount s) string = subst (λ f. Form f w (number s) (bitCount s) string) e formed in
       counted (nonadjacent-yes-only w s string recoded-legal (F .apart) v C)
@@ -133,12 +128,12 @@ module _ {form w : ℕ} {s : List ℕ} {digits₀ : List ℤ} {marks₀ : List �
         (e, taped-additions t T e .0 ∙ ap (λ k. k - 1) weight-is, taped-doublings t T e .0 ∙ ap (λ k. k - 1) top-is)
 
     -- and run accepts that tape, for every modulus that is not 0, and gives the scalar times the base
-    pub recoded-ran : {m g : ℕ} {multiples₀ multiples : List ℕ} → m ≢ 0 → entries w ≤ length multiples₀ → (r : Ran) → Promise w (take (t .taped .words) (t .words)) m g multiples₀ r multiples
+    pub recoded-ran : {m g : ℕ} {multiples₀ multiples : List ℕ} → m ≢ 0 → entries (largest w) ≤ length multiples₀ → (r : Ran) → Run w (take (t .taped .words) (t .words)) m g multiples₀ r multiples
         → Ends (number s) m g (o .tally .weight) (o .tally .top) r
     recoded-ran {m} {g} some fits r P = rw (← weight-is, ← top-is) (legal-ran recoded-legal room t T some fits r P)
 
 -- ---- from a string made elsewhere
-module _ {w : ℕ} (s : List ℕ) {ds : List ℤ} (v : Verdict) (C : Checking.Keeps (checkRules w s ds) ds v) (z : v .refusal ≡ 0)
+module _ {w : ℕ} (s : List ℕ) {ds : List ℤ} (v : Tally) (C : Checking.Keeps (checkRules w s ds) ds v) (z : v .refusal ≡ 0)
     {words₀ : List ℕ} (room : mostWords ≤ length words₀) (t : Taping.Outcome) (T : Taping.Keeps w ds words₀ t) where
   legal : Legal w s ds
   legal = check-yes w s ds v C z
@@ -150,10 +145,10 @@ module _ {w : ℕ} (s : List ℕ) {ds : List ℤ} (v : Verdict) (C : Checking.Ke
   pub checked-taped : (t .taped .refusal ≡ 0) × (t .taped .additions ≡ v .weight - 1) × (t .taped .doublings ≡ v .top - 1)
   checked-taped =
       let e = legal-taped legal room t T in
-      (e, taped-additions t T e .0 ∙ ap (λ (x : Verdict). x .weight - 1) (sym said), taped-doublings t T e .0 ∙ ap (λ (x : Verdict). x .top - 1) (sym said))
+      (e, taped-additions t T e .0 ∙ ap (λ (x : Tally). x .weight - 1) (sym said), taped-doublings t T e .0 ∙ ap (λ (x : Tally). x .top - 1) (sym said))
 
   -- and run accepts its tape and gives the scalar times the base
-  pub checked-ran : {m g : ℕ} {multiples₀ multiples : List ℕ} → m ≢ 0 → entries w ≤ length multiples₀ → (r : Ran) → Promise w (take (t .taped .words) (t .words)) m g multiples₀ r multiples
+  pub checked-ran : {m g : ℕ} {multiples₀ multiples : List ℕ} → m ≢ 0 → entries (largest w) ≤ length multiples₀ → (r : Ran) → Run w (take (t .taped .words) (t .words)) m g multiples₀ r multiples
       → Ends (number s) m g (v .weight) (v .top) r
   checked-ran {m} {g} some fits r P =
-      subst (λ (x : Verdict). Ends (number s) m g (x .weight) (x .top) r) (sym said) (legal-ran legal room t T some fits r P)
+      subst (λ (x : Tally). Ends (number s) m g (x .weight) (x .top) r) (sym said) (legal-ran legal room t T some fits r P)

@@ -1,6 +1,6 @@
 -- Each promise is kept by a call: for every input there is an outcome that satisfies it. So no theorem about calls that keep a promise is empty; and since two outcomes that keep
 -- it are equal, what the real call leaves is that outcome, at every input. Assumes nothing.
-use mathlib.Core.Path.{_≡_, refl, subst}
+use mathlib.Core.Path.{_≡_, refl}
 use mathlib.Core.Logic.{_≢_, _⊎_, inl, inr, ⊎-elim}
 use mathlib.Core.Bool.{Bool, true, false, not}
 use mathlib.Core.List.{List, [], _∷_, _++_}
@@ -10,59 +10,51 @@ use native.Mathlib.Decide.{decLt, decLe, ℕ-discrete}
 use lib.Dec.{T}
 use lib.IntN.{ℤ, pos, _*ℤ_, ℤ-discrete}
 use lib.ListN.{length, getD, drop, List·getD-eq-default}
+use Rattle.laws.proofs.Choices.{not-below}
 use Rattle.laws.proofs.Division.{floor}
 use Rattle.meaning.specs.Scalars.{number, bitCount}
-use Rattle.meaning.specs.Digits.{leastWidth, mostWidth, largest, inSet, worth, weight, top}
-use Rattle.meaning.specs.Refusals.{Rule, plain, lowest, First, granted, kept, badWidth}
+use Rattle.meaning.specs.Digits.{leastWidth, mostWidth, largest, entries, inSet, worth, weight, top, Tally}
+use Rattle.meaning.specs.Refusals.{Rule, plain, lowest, numberOf, Lowest, Applies, Fails, First, granted, kept, badWidth}
 use Rattle.meaning.specs.Recoding.{markWords, marksOf, recodeRules}
-use Rattle.meaning.specs.Checking.{BadDigit, badDigit, Crowded, checkRules, nonadjacentRules, Check}
-use Rattle.meaning.specs.Taping.{codeOf, entryOf, tapeOf, tapeValue, doublings, additions, tapeRules}
-use Rattle.meaning.specs.Running.{entries, IsLoad, Good, BadWord, Residue, multiplesOf, runRules}
+use Rattle.meaning.specs.Checking.{BadDigit, badDigit, Crowded, checkRules, nonadjacentRules}
+use Rattle.meaning.specs.Words.{codeOf, entryOf}
+use Rattle.meaning.specs.Walks.{tapeValue, doublings, additions, IsLoad, Good}
+use Rattle.meaning.specs.Taping.{tapeOf, tapeRules}
+use Rattle.meaning.specs.Running.{BadWord, multiplesOf, runRules, Run, Ran}
+use Rattle.forms.proofs.Refusals.{clear}
 use Rattle.forms.proofs.Forms.{form-exists}
 use Rattle.scalar.proofs.Bytes.{Bytes, number-lt}
-use Rattle.laws.proofs.Choices.{not-below}
-use Rattle.judge.specs.declared.Verdict.{Verdict}
-use Rattle.run.specs.declared.Ran.{Ran}
-use Rattle.run.specs.declared.Outcome.the-variants as variants
-use Rattle.run.specs.Outcomes.{refusal, Promise}
-use Rattle.promises.proofs.Rules.{recode-rises, run-rises}
-use Rattle.promises.proofs.Exactly.{Rising, first-none}
 use Rattle.promises.proofs.Recode as Recoding
 use Rattle.promises.proofs.Tape as Taping
 use Rattle.promises.proofs.Check as Checking
 
 -- ---- rules that can be decided
--- the rule applies at some place, or at none
-abbrev Decided : (ℕ → Type 0) → Type 0
-Decided P = ((p : ℕ) × P p) ⊎ ((p : ℕ) → P p → ⊥)
+-- the rule applies at some place, or fails
+abbrev Decided : Rule → Type 0
+Decided x = ((p : ℕ) × Applies x p) ⊎ Fails x
 
--- each rule, where those before it apply at no place
+-- each rule, where those before it fail
 abbrev AllDecided : List Rule → Type 0
 AllDecided [] = Unit {0}
-AllDecided (x ∷ xs) = Decided (x .1) × (((p : ℕ) → x .1 p → ⊥) → AllDecided xs)
+AllDecided (x ∷ xs) = Decided x × (Fails x → AllDecided xs)
 
 -- then one of them is the first, or none is
 first-exists : (rules : List Rule) → AllDecided rules → (r : ℕ) × (p : ℕ) × First rules r p
 first-exists [] d = (0, 0, (refl, refl))
-first-exists (x ∷ xs) (inl (p, h), d) = (x .0, p, inl (refl, h))
+first-exists (x ∷ xs) (inl (p, h), d) = (numberOf x, p, inl (refl, h))
 first-exists (x ∷ xs) (inr n, d) = let (r, p, f) = first-exists xs (d n) in (r, p, inr (n, f))
 
--- where it is none, the place is 0
-none-place : (b : ℕ) (rules : List Rule) → Rising b rules → (p : ℕ) → First rules 0 p → p ≡ 0
-none-place b [] o p f = f .1
-none-place b (x ∷ xs) (l, o) p (inl (e, h)) = absurd (omega arith)
-none-place b (x ∷ xs) (l, o) p (inr (n, f)) = none-place (x .0) xs o p f
-
-by : {C : Type 0} → Dec C → Decided (plain C)
+-- a rule's number does not matter here
+by : {C : Type 0} → Dec C → Decided (plain 0 C)
 by (yes c) = inl (0, (c, refl))
-by (no n) = inr (λ p h. n (h .0))
+by (no n) = inr n
 
 -- the lowest of the places under n, or none of them
-search-under : (C : ℕ → Type 0) → ((p : ℕ) → Dec (C p)) → (n : ℕ) → ((p : ℕ) × (p < n) × lowest C p) ⊎ ((p : ℕ) → p < n → C p → ⊥)
+search-under : (C : ℕ → Type 0) → ((p : ℕ) → Dec (C p)) → (n : ℕ) → ((p : ℕ) × (p < n) × Lowest C p) ⊎ ((p : ℕ) → p < n → C p → ⊥)
 search-under C dec zero = inr (λ p l c. omega arith)
 search-under C dec (suc n) = go (search-under C dec n) (dec n)
   where
-    go : ((p : ℕ) × (p < n) × lowest C p) ⊎ ((p : ℕ) → p < n → C p → ⊥) → Dec (C n) → ((p : ℕ) × (p < suc n) × lowest C p) ⊎ ((p : ℕ) → p < suc n → C p → ⊥)
+    go : ((p : ℕ) × (p < n) × Lowest C p) ⊎ ((p : ℕ) → p < n → C p → ⊥) → Dec (C n) → ((p : ℕ) × (p < suc n) × Lowest C p) ⊎ ((p : ℕ) → p < suc n → C p → ⊥)
     go (inl (p, l, c)) d = inl (p, omega arith, c)
     go (inr f) (yes c) = inl (n, omega arith, (c, f))
     go (inr f) (no g) = inr (λ p l c. at p (decLt p n) l c)
@@ -71,12 +63,12 @@ search-under C dec (suc n) = go (search-under C dec n) (dec n)
         at p (yes h) l c = f p h c
         at p (no h) l c = let e : p ≡ n = omega arith in g (rw e at c)
 
-among : (C : ℕ → Type 0) → ((p : ℕ) → Dec (C p)) → (n : ℕ) → ((p : ℕ) → C p → p < n) → Decided (lowest C)
+among : (C : ℕ → Type 0) → ((p : ℕ) → Dec (C p)) → (n : ℕ) → ((p : ℕ) → C p → p < n) → Decided (lowest 0 C)
 among C dec n within = go (search-under C dec n)
   where
-    go : ((p : ℕ) × (p < n) × lowest C p) ⊎ ((p : ℕ) → p < n → C p → ⊥) → Decided (lowest C)
+    go : ((p : ℕ) × (p < n) × Lowest C p) ⊎ ((p : ℕ) → p < n → C p → ⊥) → Decided (lowest 0 C)
     go (inl (p, l, c)) = inl (p, c)
-    go (inr f) = inr (λ p h. f p (within p (h .0)) (h .0))
+    go (inr f) = inr (λ p c. f p (within p c) c)
 
 -- ---- sentences that can be decided
 or? : {A B : Type 0} → Dec A → Dec B → Dec (A ⊎ B)
@@ -102,16 +94,16 @@ true? : (b : Bool) → Dec (T b)
 true? true = yes tt
 true? false = no (λ t. t)
 
-width? : (w : ℕ) → Decided (badWidth w .1)
+width? : (w : ℕ) → Decided (badWidth w)
 width? w = by (or? (decLt w leastWidth) (decLt mostWidth w))
 
-bad? : (w : ℕ) (ds : List ℤ) → Decided (lowest (BadDigit w ds))
-bad? w ds = among (BadDigit w ds) one (length ds) (λ p b. b .within)
+bad? : (m : ℕ) (ds : List ℤ) → Decided (badDigit m ds)
+bad? m ds = among (BadDigit m ds) one (length ds) (λ p b. b .within)
   where
-    one : (p : ℕ) → Dec (BadDigit w ds p)
-    one p = go (and? (decLt p (length ds)) (true? (not (inSet (largest w) (getD ds p (pos 0))))))
+    one : (p : ℕ) → Dec (BadDigit m ds p)
+    one p = go (and? (decLt p (length ds)) (true? (not (inSet m (getD ds p (pos 0))))))
       where
-        go : Dec ((p < length ds) × T (not (inSet (largest w) (getD ds p (pos 0))))) → Dec (BadDigit w ds p)
+        go : Dec ((p < length ds) × T (not (inSet m (getD ds p (pos 0))))) → Dec (BadDigit m ds p)
         go (yes h) = yes (record { within = h .0; bad = h .1 })
         go (no n) = no (λ b. n (b .within, b .bad))
 
@@ -127,7 +119,7 @@ recode-decided form w s bytes places words = (
         by (decLt places (bitCount s + 1)),
         λ _. (
           by (decLt words markWords),
-          λ _. (inr (λ p h. let (ds, f) = form-exists w (number s) (bitCount s) (not-below (λ l. b 0 (inl (inl l), refl))) (number-lt s bytes) form (not-below (λ l. a 0 (inl l, refl))) (not-below (λ l. a 0 (inr l, refl))) in h .0 ds f), λ _. tt),
+          λ _. (inr (λ h. let (ds, f) = form-exists w (number s) (bitCount s) (not-below (λ l. b (inl (inl l)))) (number-lt s bytes) form (not-below (λ l. a (inl l))) (not-below (λ l. a (inr l))) in h ds f), λ _. tt),
         ),
       ),
     ),
@@ -142,8 +134,8 @@ recode-kept-by form w s bytes digits₀ marks₀ = let (r, p, f) = first-exists 
 
     go : (r p : ℕ) → First rules r p → (o : Recoding.Outcome) × Recoding.Keeps form w s digits₀ marks₀ o
     go zero p f =
-        let (a, (b, _)) = first-none 0 rules (recode-rises form w s (length digits₀) (length marks₀)) 0 p f refl in
-        let (ds, F) = form-exists w (number s) (bitCount s) (not-below (λ l. b 0 (inl (inl l), refl))) (number-lt s bytes) form (not-below (λ l. a 0 (inl l, refl))) (not-below (λ l. a 0 (inr l, refl))) in (
+        let (a, (b, _)) = clear rules tt 0 p f refl in
+        let (ds, F) = form-exists w (number s) (bitCount s) (not-below (λ l. b (inl (inl l)))) (number-lt s bytes) form (not-below (λ l. a (inl l))) (not-below (λ l. a (inr l))) in (
           record { tally = record { refusal = 0; place = p; weight = weight ds; top = top ds }; digits = ds ++ drop (bitCount s + 1) digits₀; marks = marksOf ds ++ drop markWords marks₀ },
           record {
             first = f;
@@ -159,9 +151,9 @@ recode-kept-by form w s bytes digits₀ marks₀ = let (r, p, f) = first-exists 
 -- ---- the checks
 check-decided : (w : ℕ) (s : List ℕ) (ds : List ℤ) → AllDecided (checkRules w s ds)
 check-decided w s ds =
-    (width? w, λ _. (by (decLt 66 (length s)), λ _. (by (decLt 529 (length ds)), λ _. (bad? w ds, λ _. (by (not? (ℤ-discrete (worth ds) (pos (number s)))), λ _. tt)))))
+    (width? w, λ _. (by (decLt 66 (length s)), λ _. (by (decLt 529 (length ds)), λ _. (bad? (largest w) ds, λ _. (by (not? (ℤ-discrete (worth ds) (pos (number s)))), λ _. tt)))))
 
-crowded? : (w : ℕ) (ds : List ℤ) → Decided (lowest (Crowded w ds))
+crowded? : (w : ℕ) (ds : List ℤ) → Decided (lowest 10 (Crowded w ds))
 crowded? w ds = among (Crowded w ds) one (length ds) (λ p c. there p (c .here))
   where
     there : (p : ℕ) → getD ds p (pos 0) ≢ pos 0 → p < length ds
@@ -178,30 +170,30 @@ crowded? w ds = among (Crowded w ds) one (length ds) (λ p c. there p (c .here))
     one : (p : ℕ) → Dec (Crowded w ds p)
     one p = go (search-under (Second p) (λ j. and? (decLt p j) (and? (not? (ℤ-discrete (getD ds p (pos 0)) (pos 0))) (not? (ℤ-discrete (getD ds j (pos 0)) (pos 0))))) (p + w))
       where
-        go : ((j : ℕ) × (j < p + w) × lowest (Second p) j) ⊎ ((j : ℕ) → j < p + w → Second p j → ⊥) → Dec (Crowded w ds p)
+        go : ((j : ℕ) × (j < p + w) × Lowest (Second p) j) ⊎ ((j : ℕ) → j < p + w → Second p j → ⊥) → Dec (Crowded w ds p)
         go (inl (j, l, (c, _))) = yes (record { other = j; above = c .0; near = l; here = c .1 .0; there = c .1 .1 })
         go (inr f) = no (λ c. f (c .other) (c .near) (c .above, (c .here, c .there)))
 
 nonadjacent-decided : (w : ℕ) (s : List ℕ) (ds : List ℤ) → AllDecided (nonadjacentRules w s ds)
 nonadjacent-decided w s ds =
-    (width? w, λ _. (by (decLt 66 (length s)), λ _. (by (decLt 529 (length ds)), λ _. (bad? w ds, λ _. (by (not? (ℤ-discrete (worth ds) (pos (number s)))), λ _. (crowded? w ds, λ _. tt))))))
+    (width? w, λ _. (by (decLt 66 (length s)), λ _. (by (decLt 529 (length ds)), λ _. (bad? (largest w) ds, λ _. (by (not? (ℤ-discrete (worth ds) (pos (number s)))), λ _. (crowded? w ds, λ _. tt))))))
 
-judged-by : (rules : List Rule) → AllDecided rules → (ds : List ℤ) → (v : Verdict) × Checking.Keeps rules ds v
+judged-by : (rules : List Rule) → AllDecided rules → (ds : List ℤ) → (v : Tally) × Checking.Keeps rules ds v
 judged-by rules d ds =
     let (r, p, f) = first-exists rules d in
     (record { refusal = r; place = p; weight = granted r (weight ds); top = granted r (top ds) }, record { first = f; weight-is = refl; top-is = refl })
 
-pub check-kept-by : (w : ℕ) (s : List ℕ) (ds : List ℤ) → (v : Verdict) × Checking.Keeps (checkRules w s ds) ds v
+pub check-kept-by : (w : ℕ) (s : List ℕ) (ds : List ℤ) → (v : Tally) × Checking.Keeps (checkRules w s ds) ds v
 check-kept-by w s ds = judged-by (checkRules w s ds) (check-decided w s ds) ds
 
-pub nonadjacent-kept-by : (w : ℕ) (s : List ℕ) (ds : List ℤ) → (v : Verdict) × Checking.Keeps (nonadjacentRules w s ds) ds v
+pub nonadjacent-kept-by : (w : ℕ) (s : List ℕ) (ds : List ℤ) → (v : Tally) × Checking.Keeps (nonadjacentRules w s ds) ds v
 nonadjacent-kept-by w s ds = judged-by (nonadjacentRules w s ds) (nonadjacent-decided w s ds) ds
 
 -- ---- tape
 pub tape-kept-by : (w : ℕ) (ds : List ℤ) (words₀ : List ℕ) → (o : Taping.Outcome) × Taping.Keeps w ds words₀ o
 tape-kept-by w ds words₀ =
     let tape = tapeOf ds in
-    let (r, p, f) = first-exists (tapeRules w ds (length words₀)) (width? w, λ _. (by (decLt 529 (length ds)), λ _. (bad? w ds, λ _. (by (decLt (length words₀) (length tape)), λ _. tt)))) in (
+    let (r, p, f) = first-exists (tapeRules w ds (length words₀)) (width? w, λ _. (by (decLt 529 (length ds)), λ _. (bad? (largest w) ds, λ _. (by (decLt (length words₀) (length tape)), λ _. tt)))) in (
       record {
         taped = record { refusal = r; place = p; words = granted r (length tape); doublings = granted r (top ds - 1); additions = granted r (weight ds - 1) };
         words = kept r (tape ++ drop (length tape) words₀) words₀;
@@ -210,73 +202,65 @@ tape-kept-by w ds words₀ =
     )
 
 -- ---- run
-good? : (w i x : ℕ) → Dec (Good w i x)
-good? w i x =
+good? : (count i x : ℕ) → Dec (Good count i x)
+good? count i x =
     let load = and? (decLe 1 (codeOf x)) (decLe (codeOf x) 2) in
     let first = ℕ-discrete i 0 in
-    go (and? (decLe (codeOf x) 4) (and? (decLt (entryOf x) (entries w)) (and? (if? (ℕ-discrete (codeOf x) 0) (ℕ-discrete (entryOf x) 0)) (and? (if? first load) (if? (not? first) (not? load))))))
+    go (and? (decLe (codeOf x) 4) (and? (decLt (entryOf x) count) (and? (if? (ℕ-discrete (codeOf x) 0) (ℕ-discrete (entryOf x) 0)) (and? (if? first load) (if? (not? first) (not? load))))))
   where
-    go : Dec ((codeOf x ≤ 4) × ((entryOf x < entries w) × ((codeOf x ≡ 0 → entryOf x ≡ 0) × ((i ≡ 0 → IsLoad (codeOf x)) × (i ≢ 0 → IsLoad (codeOf x) → ⊥))))) → Dec (Good w i x)
+    go : Dec ((codeOf x ≤ 4) × ((entryOf x < count) × ((codeOf x ≡ 0 → entryOf x ≡ 0) × ((i ≡ 0 → IsLoad (codeOf x)) × (i ≢ 0 → IsLoad (codeOf x) → ⊥))))) → Dec (Good count i x)
     go (yes (a, (b, (c, (d, e))))) = yes (record { code = a; entry = b; double = c; first = d; later = e })
     go (no n) = no (λ g. n (g .code, (g .entry, (g .double, (g .first, g .later)))))
 
-word? : (w : ℕ) (ws : List ℕ) → Decided (lowest (BadWord w ws))
-word? w ws = among (BadWord w ws) one (length ws) (λ p b. b .within)
+word? : (count : ℕ) (ws : List ℕ) → Decided (lowest 15 (BadWord count ws))
+word? count ws = among (BadWord count ws) one (length ws) (λ p b. b .within)
   where
-    one : (p : ℕ) → Dec (BadWord w ws p)
-    one p = go (and? (decLt p (length ws)) (not? (good? w p (getD ws p 0))))
+    one : (p : ℕ) → Dec (BadWord count ws p)
+    one p = go (and? (decLt p (length ws)) (not? (good? count p (getD ws p 0))))
       where
-        go : Dec ((p < length ws) × (Good w p (getD ws p 0) → ⊥)) → Dec (BadWord w ws p)
+        go : Dec ((p < length ws) × (Good count p (getD ws p 0) → ⊥)) → Dec (BadWord count ws p)
         go (yes h) = yes (record { within = h .0; bad = h .1 })
         go (no n) = no (λ b. n (b .within, b .bad))
 
-pub run-kept-by : (w : ℕ) (ws : List ℕ) (m g : ℕ) (multiples₀ : List ℕ) → (a : Ran) × (multiples : List ℕ) × Promise w ws m g multiples₀ a multiples
+pub run-kept-by : (w : ℕ) (ws : List ℕ) (m g : ℕ) (multiples₀ : List ℕ) → (a : Ran) × (multiples : List ℕ) × Run w ws m g multiples₀ a multiples
 run-kept-by w ws m g multiples₀ =
-    let (r, p, f) = first-exists rules (width? w, λ _. (by (ℕ-discrete m 0), λ _. (by (decLt 1057 (length ws)), λ _. (by (decLt (length multiples₀) (entries w)), λ _. (word? w ws, λ _. tt))))) in
+    let count = entries (largest w) in
+    let (r, p, f) = first-exists rules (width? w, λ _. (by (ℕ-discrete m 0), λ _. (by (decLt 1057 (length ws)), λ _. (by (decLt (length multiples₀) count), λ _. (word? count ws, λ _. tt))))) in
     go r p f
   where
     rules : List Rule
     rules = runRules w ws m (length multiples₀)
 
-    go : (r p : ℕ) → First rules r p → (a : Ran) × (multiples : List ℕ) × Promise w ws m g multiples₀ a multiples
+    go : (r p : ℕ) → First rules r p → (a : Ran) × (multiples : List ℕ) × Run w ws m g multiples₀ a multiples
     go zero p f =
-        let (_, (some, _)) = first-none 0 rules (run-rises w ws m (length multiples₀)) 0 p f refl in
-        let F = floor (tapeValue ws *ℤ pos g) m (positive (λ e. some 0 (e, refl))) in (
-          record { outcome = variants.Residue (F .rem); doublings = doublings ws; additions = additions ws; cost = entries w - 1 },
-          multiplesOf w m g ++ drop (entries w) multiples₀,
+        let count = entries (largest w) in
+        let (_, (some, _)) = clear rules tt 0 p f refl in
+        let F = floor (tapeValue ws *ℤ pos g) m (positive some) in (
+          record { refusal = 0; place = p; residue = F .rem; doublings = doublings ws; additions = additions ws; cost = count - 1 },
+          multiplesOf count m g ++ drop count multiples₀,
           record {
-            run = record {
-              first = subst (First rules 0) (none-place 0 rules (run-rises w ws m (length multiples₀)) p f) f;
-              residue-is = λ _. record { quotient = F .quo; is = F .is; least = F .below };
-              residue-none = λ n. absurd (n refl);
-              doublings-are = refl;
-              additions-are = refl;
-              cost-is = refl;
-              multiples-are = refl;
-            };
-            numbered = tt;
+            first = f;
+            residue-is = λ _. record { quotient = F .quo; is = F .is; least = F .below };
+            residue-none = λ n. absurd (n refl);
+            doublings-are = refl;
+            additions-are = refl;
+            cost-is = refl;
+            multiples-are = refl;
           },
         )
       where
         positive : (m ≡ 0 → ⊥) → 0 < m
-        positive n = go′ (decLt 0 m)
-          where
-            go′ : Dec (0 < m) → 0 < m
-            go′ (yes h) = h
-            go′ (no h) = absurd (n (omega arith))
+        positive n = not-below (λ l. n (omega arith))
     go (suc r) p f = (
-      refusal (suc r) p,
+      record { refusal = suc r; place = p; residue = 0; doublings = 0; additions = 0; cost = 0 },
       multiples₀,
       record {
-        run = record {
-          first = f;
-          residue-is = λ z. absurd (omega arith);
-          residue-none = λ _. refl;
-          doublings-are = refl;
-          additions-are = refl;
-          cost-is = refl;
-          multiples-are = refl;
-        };
-        numbered = λ e. omega arith;
+        first = f;
+        residue-is = λ z. absurd (omega arith);
+        residue-none = λ _. refl;
+        doublings-are = refl;
+        additions-are = refl;
+        cost-is = refl;
+        multiples-are = refl;
       },
     )

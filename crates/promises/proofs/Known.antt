@@ -1,10 +1,10 @@
 -- The known strings P1 to P12: a single list of cases, and one theorem that covers it. What the promise of recode, of tape and of run determines at each case
 -- is the listed answer. Assumes nothing.
 use mathlib.Core.Path.{_≡_, refl, sym, ap, subst, _∙_}
-use mathlib.Core.Logic.{_≢_, _⊎_, inr, ⊎-elim}
+use mathlib.Core.Logic.{_≢_, ⊎-elim}
 use mathlib.Core.Bool.{Bool, not, _&&_, _||_}
 use mathlib.Core.List.{List, [], _∷_, _++_}
-use Prim.Native.Nat.{ℕ, zero, suc, _+_, _-_, _*_, _^_, _<_, _≤_}
+use Prim.Native.Nat.{ℕ, zero, suc, _+_, _-_, _^_, _<_, _≤_}
 use native.Mathlib.Omega.{arith}
 use lib.Count.{trailingZeros}
 use lib.Dec.{T, leb, eqb, leb→le, eqb→eq, T-not, lit<, lit≤}
@@ -12,34 +12,32 @@ use Rattle.laws.proofs.Choices.{and-both, or-either, equal}
 use lib.IntN.{ℤ, pos, negsuc, _*ℤ_}
 use lib.ListN.{length, getD, drop, replicate}
 use Rattle.meaning.specs.Scalars.{number, bitCount}
-use Rattle.meaning.specs.Digits.{nonzero, weight, top, listed, inSet, allIn, largest}
+use Rattle.meaning.specs.Digits.{nonzero, weight, top, listed, inSet, allIn, largest, entries}
 use Rattle.meaning.specs.Mof.{mof}
 use Rattle.meaning.specs.Windows.{windowWorth, shrink}
 use Rattle.meaning.specs.Wmof.{wmofUnder, wmof}
-use Rattle.meaning.specs.Closest.{larger}
-use Rattle.meaning.specs.Forms.{Form}
-use Rattle.meaning.specs.Recoding.{markWords, marksOf}
+use Rattle.meaning.specs.Forms.{Asked, one, nothing, asked, Form}
+use Rattle.meaning.specs.Recoding.{markWords, marksOf, recodeRules}
+use Rattle.meaning.specs.Checking.{BadDigit}
+use Rattle.meaning.specs.Words.{stepOf}
+use Rattle.meaning.specs.Walks.{taken, walked, tapeValue, doublings, additions}
+use Rattle.meaning.specs.Taping.{moves, down, tapeOf, tapeRules}
+use Rattle.meaning.specs.Running.{Residue, BadWord, multiplesOf, runRules, Run, Ran}
 use Rattle.forms.specs.Wnaf.{wnafDigit, wnafNext, wnafFrom}
 use Rattle.forms.specs.Closest.{closestUnder, closestOf}
-use Rattle.recoder.specs.Judged.{Allowed}
-use Rattle.recoder.proofs.Judging.{refuses-none}
-use Rattle.recoder.proofs.Formed.{is-mof, is-wnaf, is-wmof, is-closest}
-use Rattle.width.specs.Widths.{Lawful}
+use Rattle.forms.proofs.Refusals.{first-none}
 use Rattle.forms.proofs.Strings.{all-at}
-use Rattle.meaning.specs.Refusals.{plain, lowest}
-use Rattle.meaning.specs.Checking.{BadDigit}
-use Rattle.meaning.specs.Taping.{loads, adds, down, tapeOf, stepped, valueFrom, tapeValue, doublings, additions}
-use Rattle.meaning.specs.Running as Residues
-use Rattle.meaning.specs.Running.{entries, BadWord, multiplesOf}
-use Rattle.tape.proofs.Lengths.{tape-fits}
-use Rattle.tape.proofs.Tapes.{tape-doublings, tape-additions, tape-good}
-use Rattle.run.specs.declared.Ran.{Ran}
-use Rattle.run.specs.declared.Outcome.the-variants.{Residue}
-use Rattle.run.specs.Outcomes.{Promise}
+use Rattle.forms.proofs.Forms.{stringOf, kind-is, asked-one}
+use Rattle.width.specs.Widths.{Wide}
+use Rattle.width.proofs.Widths.{width-fine, largest-sized}
+use Rattle.walk.proofs.Lengths.{tape-fits}
+use Rattle.walk.proofs.Tapes.{Faithful, faithful, tape-good}
+use Rattle.recoder.specs.Judged.{Allowed}
+use Rattle.recoder.proofs.Refusals.{admits}
 use Rattle.promises.proofs.Recode.{Outcome, Keeps, recode-determined}
 use Rattle.promises.proofs.Tape as Taping
 use Rattle.promises.proofs.Tape.{tape-determined}
-use Rattle.promises.proofs.Run.{run-determined}
+use Rattle.promises.proofs.Run.{run-plain}
 
 -- every element of a list
 abbrev pub All : {A : Type 0} → (A → Type 0) → List A → Type 0
@@ -73,14 +71,13 @@ cases =
     ∷ steps 3 (pos 0 ∷ negsuc 2 ∷ pos 0 ∷ pos 0 ∷ pos 3 ∷ zeros 4) (0x1001 ∷ 0 ∷ 0 ∷ 0 ∷ 0x4001 ∷ 0 ∷ []) 10 9 8 4 1 (9 ∷ 7 ∷ [])
     ∷ []
 
--- the string of a form, computed
-unfoldable pub stringOf : (form w N n : ℕ) → List ℤ
-stringOf (suc zero) w N n = mof N n
-stringOf (suc (suc zero)) w N n = wnafFrom w (n + 1) N
-stringOf (suc (suc (suc zero))) w N n = wmof w N n
-stringOf (suc (suc (suc (suc zero)))) w N n = closestOf larger w N n
-stringOf zero w N n = []
-stringOf (suc (suc (suc (suc (suc f))))) w N n = []
+-- the string of a form's number, computed
+abbrev madeBy : Asked → (w N n : ℕ) → List ℤ
+madeBy (one k) w N n = stringOf k w N n
+madeBy nothing w N n = []
+
+abbrev pub stringBy : (form w N n : ℕ) → List ℤ
+stringBy form w N n = madeBy (asked form) w N n
 
 -- whatever an outcome is that keeps the promise of recode: accepted, these digits and their marks, weight and top, and what stood past them
 pub record Answered (s : List ℕ) (ds : List ℤ) (digits₀ : List ℤ) (marks₀ : List ℕ) (o : Outcome) : Type 0 where
@@ -93,6 +90,10 @@ pub record Written (ws : List ℕ) (doubled added : ℕ) (words₀ : List ℕ) (
   pub taped-is : o .taped ≡ record { refusal = 0; place = 0; words = length ws; doublings = doubled; additions = added }
   pub words-are : o .words ≡ ws ++ drop (length ws) words₀
 
+-- what an accepted run answers
+abbrev pub ranTo : (w x doubled added : ℕ) → Ran
+ranTo w x doubled added = record { refusal = 0; place = 0; residue = x; doublings = doubled; additions = added; cost = entries (largest w) - 1 }
+
 -- whatever is lent, if it is enough, recode answers these digits
 abbrev pub Answers : (f w : ℕ) (s : List ℕ) (ds : List ℤ) → Type 0
 Answers f w s ds = (digits₀ : List ℤ) (marks₀ : List ℕ) → bitCount s + 1 ≤ length digits₀ → markWords ≤ length marks₀ → (o : Outcome) → Keeps f w s digits₀ marks₀ o → Answered s ds digits₀ marks₀ o
@@ -102,8 +103,7 @@ Holds (string forms w s ds) = All (λ f. Answers f w s ds) forms
 Holds (every s ds) = (f w : ℕ) → Allowed f w → Answers f w s ds
 Holds (steps w ds ws m g x doubled added multiples) =
     ((words₀ : List ℕ) → length ws ≤ length words₀ → (o : Taping.Outcome) → Taping.Keeps w ds words₀ o → Written ws doubled added words₀ o)
-    × ((multiples₀ : List ℕ) → entries w ≤ length multiples₀ → (r : Ran) (ms : List ℕ) → Promise w ws m g multiples₀ r ms
-    → (r ≡ record { outcome = Residue x; doublings = doubled; additions = added; cost = entries w - 1 }) × (ms ≡ multiples ++ drop (entries w) multiples₀))
+    × ((multiples₀ : List ℕ) → entries (largest w) ≤ length multiples₀ → (r : Ran) (ms : List ℕ) → Run w ws m g multiples₀ r ms → (r ≡ ranTo w x doubled added) × (ms ≡ multiples ++ drop (entries (largest w)) multiples₀))
 
 -- ---- a string in a form
 -- the form at the width, by a test
@@ -119,19 +119,13 @@ allowed f w t =
     record {
       least = leb→le 1 f c;
       most = leb→le f 4 d;
-      lawful = (leb→le 2 w h, leb→le w 8 i);
+      wide = (leb→le 2 w h, leb→le w 8 i);
       narrow = λ z. ⊎-elim (λ x. absurd (T-not (eqb f 1) x (equal f 1 z))) (λ x. eqb→eq w 2 x) (or-either (not (eqb f 1)) (eqb w 2) g);
     }
 
--- what `stringOf` gives has the form
-pub string-formed : (f w N n : ℕ) → 2 ≤ w → N < 2 ^ n → 1 ≤ f → f ≤ 4 → Form f w N n (stringOf f w N n)
-unfolding stringOf
-string-formed zero w N n two small a b = absurd (omega arith)
-string-formed (suc zero) w N n two small a b = is-mof 1 w N n (mof N n) refl refl
-string-formed (suc (suc zero)) w N n two small a b = is-wnaf 2 w N n (wnafFrom w (n + 1) N) two small refl refl
-string-formed (suc (suc (suc zero))) w N n two small a b = is-wmof 3 w N n (wmof w N n) refl refl
-string-formed (suc (suc (suc (suc zero)))) w N n two small a b = is-closest 4 w N n (closestOf larger w N n) two small refl refl
-string-formed (suc (suc (suc (suc (suc f))))) w N n two small a b = absurd (omega arith)
+-- what is computed has the form
+pub string-formed : (f w N n : ℕ) → 2 ≤ w → N < 2 ^ n → 1 ≤ f → f ≤ 4 → Form f w N n (stringBy f w N n)
+string-formed f w N n two small a b = let (k, e) = asked-one f a b in rw e (kind-is w N n two small k)
 
 -- an outcome that keeps the promise is the one that the form's string gives
 pub answered : (f w : ℕ) (s : List ℕ) (ds : List ℤ) → Allowed f w → length s ≤ 66 → number s < 2 ^ bitCount s → Form f w (number s) (bitCount s) ds
@@ -139,7 +133,7 @@ pub answered : (f w : ℕ) (s : List ℕ) (ds : List ℤ) → Allowed f w → le
 answered f w s ds a l small F digits₀ marks₀ p q o K =
     let want : Outcome = record { tally = record { refusal = 0; place = 0; weight = weight ds; top = top ds }; digits = ds ++ drop (bitCount s + 1) digits₀; marks = marksOf ds ++ drop markWords marks₀ } in
     let W : Keeps f w s digits₀ marks₀ want = record {
-      first = refuses-none f w s (length digits₀) (length marks₀) a l p q small;
+      first = first-none (recodeRules f w s (length digits₀) (length marks₀)) (admits f w s (length digits₀) (length marks₀) a l p q small);
       accepted = λ e. record { string = ds; formed = F; digits-are = refl; marks-are = refl; weight-is = refl; top-is = refl };
       refused = λ n. absurd (n refl);
     } in
@@ -147,34 +141,35 @@ answered f w s ds a l small F digits₀ marks₀ p q o K =
     record { tally-is = ap (λ (x : Outcome). x .tally) e; digits-are = ap (λ (x : Outcome). x .digits) e; marks-are = ap (λ (x : Outcome). x .marks) e }
 
 -- so for the string that is computed
-by-string : (f w : ℕ) (s : List ℕ) (ds : List ℤ) → Allowed f w → length s ≤ 66 → number s < 2 ^ bitCount s → ds ≡ stringOf f w (number s) (bitCount s) → Answers f w s ds
-by-string f w s ds a l small e = answered f w s ds a l small (rw e (string-formed f w (number s) (bitCount s) (a .lawful .0) small (a .least) (a .most)))
+by-string : (f w : ℕ) (s : List ℕ) (ds : List ℤ) → Allowed f w → length s ≤ 66 → number s < 2 ^ bitCount s → ds ≡ stringBy f w (number s) (bitCount s) → Answers f w s ds
+by-string f w s ds a l small e = answered f w s ds a l small (rw e (string-formed f w (number s) (bitCount s) (a .wide .0) small (a .least) (a .most)))
 
 -- ---- a tape and its run
 -- what computes of such a case
 pub record Stepped (w : ℕ) (ds : List ℤ) (ws : List ℕ) (m g x doubled added : ℕ) (multiples : List ℕ) : Type 0 where
-  pub lawful : Lawful w
+  pub wide : Wide w
   pub short : length ds ≤ 529
   pub in-set : T (allIn (largest w) ds)
   pub words-are : tapeOf ds ≡ ws
   pub doublings-are : top ds - 1 ≡ doubled
   pub additions-are : weight ds - 1 ≡ added
   pub some : m ≢ 0
-  pub residue-is : Residues.Residue m (tapeValue ws *ℤ pos g) x
-  pub multiples-are : multiplesOf w m g ≡ multiples
+  pub residue-is : Residue m (tapeValue ws *ℤ pos g) x
+  pub multiples-are : multiplesOf (entries (largest w)) m g ≡ multiples
 
 module _ (w : ℕ) (ds : List ℤ) (ws : List ℕ) (m g x doubled added : ℕ) (multiples : List ℕ) (S : Stepped w ds ws m g x doubled added multiples) where
+  -- its tape
+  tape : Faithful (largest w) (largest-sized (S .wide) .0) (largest-sized (S .wide) .1) ds
+  tape = faithful (largest w) (largest-sized (S .wide) .0) (largest-sized (S .wide) .1) ds (S .in-set)
+
   -- no digit is bad, and no word
-  none-bad : (q : ℕ) → lowest (BadDigit w ds) q → ⊥
-  none-bad q (b, f) = T-not (inSet (largest w) (getD ds q (pos 0))) (b .bad) (all-at (largest w) ds (S .in-set) q (b .within))
+  none-bad : (q : ℕ) → BadDigit (largest w) ds q → ⊥
+  none-bad q b = T-not (inSet (largest w) (getD ds q (pos 0))) (b .bad) (all-at (largest w) ds (S .in-set) q (b .within))
 
-  all-good : (q : ℕ) → lowest (BadWord w ws) q → ⊥
-  all-good q (b, f) =
-      let c : BadWord w (tapeOf ds) q = subst (λ v. BadWord w v q) (sym (S .words-are)) b in
-      c .bad (tape-good w (S .lawful) ds (S .in-set) q (c .within))
-
-  width-in : (q : ℕ) → plain ((w < 2) ⊎ (8 < w)) q → ⊥
-  width-in q (h, e) = ⊎-elim (λ l. omega (arith, S .lawful)) (λ l. omega (arith, S .lawful)) h
+  all-good : (q : ℕ) → BadWord (entries (largest w)) ws q → ⊥
+  all-good q b =
+      let c : BadWord (entries (largest w)) (tapeOf ds) q = subst (λ v. BadWord (entries (largest w)) v q) (sym (S .words-are)) b in
+      c .bad (tape-good (largest w) (largest-sized (S .wide) .0) (largest-sized (S .wide) .1) ds (S .in-set) q (c .within))
 
   -- the tape
   pub taped : (words₀ : List ℕ) → length ws ≤ length words₀ → (o : Taping.Outcome) → Taping.Keeps w ds words₀ o → Written ws doubled added words₀ o
@@ -182,7 +177,7 @@ module _ (w : ℕ) (ds : List ℤ) (ws : List ℕ) (m g x doubled added : ℕ) (
       let want : Taping.Outcome = record { taped = record { refusal = 0; place = 0; words = length ws; doublings = doubled; additions = added }; words = ws ++ drop (length ws) words₀ } in
       let n = ap length (S .words-are) in
       let W : Taping.Keeps w ds words₀ want = record {
-        first = inr (width-in, inr ((λ q k. omega (arith, S .short)), inr (none-bad, inr ((λ q k. omega (arith, n)), (refl, refl)))));
+        first = first-none (tapeRules w ds (length words₀)) (width-fine (S .wide), ((λ k. omega (arith, S .short)), (none-bad, ((λ k. omega (arith, n)), tt))));
         count-is = sym n;
         doublings-are = sym (S .doublings-are);
         additions-are = sym (S .additions-are);
@@ -192,29 +187,25 @@ module _ (w : ℕ) (ds : List ℤ) (ws : List ℕ) (m g x doubled added : ℕ) (
       record { taped-is = ap (λ (v : Taping.Outcome). v .taped) e; words-are = ap (λ (v : Taping.Outcome). v .words) e }
 
   -- its run
-  pub ran : (multiples₀ : List ℕ) → entries w ≤ length multiples₀ → (r : Ran) (ms : List ℕ) → Promise w ws m g multiples₀ r ms
-      → (r ≡ record { outcome = Residue x; doublings = doubled; additions = added; cost = entries w - 1 }) × (ms ≡ multiples ++ drop (entries w) multiples₀)
+  pub ran : (multiples₀ : List ℕ) → entries (largest w) ≤ length multiples₀ → (r : Ran) (ms : List ℕ) → Run w ws m g multiples₀ r ms → (r ≡ ranTo w x doubled added) × (ms ≡ multiples ++ drop (entries (largest w)) multiples₀)
   ran multiples₀ room r ms P =
       let few : length ws ≤ 1057 = omega (arith, ap length (S .words-are), tape-fits ds (S .short)) in
-      let W : Promise w ws m g multiples₀ (record { outcome = Residue x; doublings = doubled; additions = added; cost = entries w - 1 }) (multiples ++ drop (entries w) multiples₀) = record {
-        run = record {
-          first = inr (width-in, inr ((λ q k. S .some (k .0)), inr ((λ q k. omega arith), inr ((λ q k. omega arith), inr (all-good, (refl, refl))))));
-          residue-is = λ z. S .residue-is;
-          residue-none = λ n. absurd (n refl);
-          doublings-are = sym (S .doublings-are) ∙ sym (tape-doublings ds) ∙ ap doublings (S .words-are);
-          additions-are = sym (S .additions-are) ∙ sym (tape-additions w (S .lawful) ds (S .in-set)) ∙ ap additions (S .words-are);
-          cost-is = refl;
-          multiples-are = ap (λ v. v ++ drop (entries w) multiples₀) (sym (S .multiples-are));
-        };
-        numbered = tt;
+      let W : Run w ws m g multiples₀ (ranTo w x doubled added) (multiples ++ drop (entries (largest w)) multiples₀) = record {
+        first = first-none (runRules w ws m (length multiples₀)) (width-fine (S .wide), (S .some, ((λ k. omega arith), ((λ k. omega arith), (all-good, tt)))));
+        residue-is = λ z. S .residue-is;
+        residue-none = λ n. absurd (n refl);
+        doublings-are = sym (S .doublings-are) ∙ sym (tape .doublings-are) ∙ ap doublings (S .words-are);
+        additions-are = sym (S .additions-are) ∙ sym (tape .additions-are) ∙ ap additions (S .words-are);
+        cost-is = refl;
+        multiples-are = ap (λ v. v ++ drop (entries (largest w)) multiples₀) (sym (S .multiples-are));
       } in
-      run-determined w ws m g multiples₀ r _ ms _ P W
+      run-plain w ws m g multiples₀ r _ ms _ P W
 
 -- ---- the theorem
 -- a case computes
 pub Fits : Case → Type 0
-Fits (string forms w s ds) = (length s ≤ 66) × (number s < 2 ^ bitCount s) × All (λ f. T (fine f w) × (ds ≡ stringOf f w (number s) (bitCount s))) forms
-Fits (every s ds) = (length s ≤ 66) × (number s < 2 ^ bitCount s) × ((f w : ℕ) → Allowed f w → ds ≡ stringOf f w (number s) (bitCount s))
+Fits (string forms w s ds) = (length s ≤ 66) × (number s < 2 ^ bitCount s) × All (λ f. T (fine f w) × (ds ≡ stringBy f w (number s) (bitCount s))) forms
+Fits (every s ds) = (length s ≤ 66) × (number s < 2 ^ bitCount s) × ((f w : ℕ) → Allowed f w → ds ≡ stringBy f w (number s) (bitCount s))
 Fits (steps w ds ws m g x doubled added multiples) = Stepped w ds ws m g x doubled added multiples
 
 -- and so it holds
@@ -224,7 +215,7 @@ holds (steps w ds ws m g x doubled added multiples) S = (taped w ds ws m g x dou
 holds (every s ds) (l, small, each) = λ f w a. by-string f w s ds a l small (each f w a)
 holds (string forms w s ds) (l, small, each) = go forms each
   where
-    go : (fs : List ℕ) → All (λ f. T (fine f w) × (ds ≡ stringOf f w (number s) (bitCount s))) fs → All (λ f. Answers f w s ds) fs
+    go : (fs : List ℕ) → All (λ f. T (fine f w) × (ds ≡ stringBy f w (number s) (bitCount s))) fs → All (λ f. Answers f w s ds) fs
     go [] h = tt
     go (f ∷ fs) ((t, e), h) = (by-string f w s ds (allowed f w t) l small e, go fs h)
 
@@ -239,10 +230,10 @@ a & b = (a, b)
 
 -- P11 and P12 compute
 pub eleventh : Stepped 2 (pos 1 ∷ pos 0 ∷ negsuc 0 ∷ pos 0 ∷ pos 1 ∷ zeros 4) (0x1000 ∷ 0 ∷ 0 ∷ 0x4000 ∷ 0 ∷ 0 ∷ 0x3000 ∷ []) 1000 7 91 4 2 (7 ∷ [])
-unfolding allIn inSet weight top nonzero tapeOf down loads adds valueFrom stepped multiplesOf listed
+unfolding allIn inSet weight top nonzero tapeOf down moves walked taken stepOf multiplesOf listed
 eleventh =
     record {
-      lawful = (lit≤ tt, lit≤ tt);
+      wide = (lit≤ tt, lit≤ tt);
       short = lit≤ tt;
       in-set = tt;
       words-are = refl;
@@ -254,10 +245,10 @@ eleventh =
     }
 
 pub twelfth : Stepped 3 (pos 0 ∷ negsuc 2 ∷ pos 0 ∷ pos 0 ∷ pos 3 ∷ zeros 4) (0x1001 ∷ 0 ∷ 0 ∷ 0 ∷ 0x4001 ∷ 0 ∷ []) 10 9 8 4 1 (9 ∷ 7 ∷ [])
-unfolding allIn inSet weight top nonzero tapeOf down loads adds valueFrom stepped multiplesOf listed
+unfolding allIn inSet weight top nonzero tapeOf down moves walked taken stepOf multiplesOf listed
 twelfth =
     record {
-      lawful = (lit≤ tt, lit≤ tt);
+      wide = (lit≤ tt, lit≤ tt);
       short = lit≤ tt;
       in-set = tt;
       words-are = refl;
@@ -269,8 +260,8 @@ twelfth =
     }
 
 -- no bytes, in every form
-no-bytes : (f w : ℕ) → Allowed f w → pos 0 ∷ [] ≡ stringOf f w (number []) (bitCount [])
-unfolding stringOf number mof listed wnafFrom wnafDigit wnafNext wmof wmofUnder closestOf closestUnder windowWorth shrink trailingZeros
+no-bytes : (f w : ℕ) → Allowed f w → pos 0 ∷ [] ≡ stringBy f w (number []) (bitCount [])
+unfolding asked stringOf number mof listed wnafFrom wnafDigit wnafNext wmof wmofUnder closestOf closestUnder windowWorth shrink trailingZeros
 no-bytes zero w a = absurd (omega (arith, a .least))
 no-bytes (suc zero) w a = refl
 no-bytes (suc (suc zero)) w a = refl
@@ -280,7 +271,7 @@ no-bytes (suc (suc (suc (suc (suc f))))) w a = absurd (omega (arith, a .most))
 
 -- every case computes: the numbers, and each form's string by `refl`
 all-fit : All Fits cases
-unfolding Fits cases stringOf number mof listed wnafFrom wnafDigit wnafNext wmof wmofUnder closestOf closestUnder windowWorth shrink trailingZeros
+unfolding Fits cases asked stringOf number mof listed wnafFrom wnafDigit wnafNext wmof wmofUnder closestOf closestUnder windowWorth shrink trailingZeros
 all-fit =
     (lit≤ tt, lit< tt, (tt, refl) & tt)
     & (lit≤ tt, lit< tt, (tt, refl) & tt)

@@ -1,6 +1,5 @@
 -- Theorems about the calls' promises alone.
 pub mod Exactly
-pub mod Rules
 pub mod Recode
 pub mod Known
 pub mod Slips

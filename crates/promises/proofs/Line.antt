@@ -12,41 +12,42 @@ use lib.IntN.{ℤ}
 use lib.ListN.{length, take, drop, take-append-drop}
 use lib.Seq.{length-take-le}
 use Rattle.meaning.specs.Scalars.{number, bitCount}
-use Rattle.meaning.specs.Digits.{mostPlaces}
+use Rattle.meaning.specs.Digits.{mostPlaces, Tally}
 use Rattle.meaning.specs.Refusals.{First}
 use Rattle.meaning.specs.Recoding.{markWords}
-use Rattle.meaning.specs.Lines.{lineFeed, malformed, formOf, widthOf, scalarOf, lineRules, acceptedBytes, written, Answer, Answers}
+use Rattle.meaning.specs.Lines.{lineFeed, Each}
+use Rattle.meaning.specs.Hexadecimal.{written}
+use Rattle.meaning.specs.Frames.{malformed, formOf, widthOf, scalarOf, lineRules, acceptedBytes, Answer, Answers}
 use Rattle.forms.proofs.Refusals.{first-only}
 use Rattle.forms.proofs.Forms.{form-same}
-use Rattle.lines.specs.Answered.{mostFrame, mostAnswer, Lent, Kept, Worked, Filled, Answered}
-use Rattle.promises.proofs.Rules.{line-tells}
+use Rattle.frames.specs.Answered.{mostFrame, mostAnswer, Lent, Kept, Worked, Filled, Answered}
 use Rattle.promises.proofs.Recode as Recoding
 use Rattle.promises.proofs.Recode.{accepted-width, recode-determined}
 
 -- ---- one line
 module _ (line : List ℕ) where
   -- an accepted line has a width of at least 2
-  two : First (lineRules line) 0 0 → 2 ≤ widthOf line
-  two (inl (e, h)) = absurd (omega arith)
-  two (inr (_, f)) = accepted-width (formOf line) (widthOf line) (scalarOf line) (bitCount (scalarOf line) + 1) markWords 0 f
+  two : {r : ℕ} → First (lineRules line) r 0 → r ≡ 0 → 2 ≤ widthOf line
+  two (inl (e, h)) z = absurd (omega arith)
+  two (inr (_, f)) z = accepted-width (formOf line) (widthOf line) (scalarOf line) (bitCount (scalarOf line) + 1) markWords 0 f z
 
   pub answer-determined : (a b : List ℕ) → Answer line a → Answer line b → a ≡ b
   answer-determined a b A B = go (ℕ-discrete (A .refusal) 0)
     where
       same : A .refusal ≡ B .refusal
-      same = first-only (lineRules line) (line-tells line) _ _ _ _ (A .first) (B .first) .0
+      same = first-only (lineRules line) (A .first) (B .first) .0
 
       go : Dec (A .refusal ≡ 0) → a ≡ b
       go (yes z) =
           let (ds, f, e) = A .accepted z in
           let (es, g, h) = B .accepted (sym same ∙ z) in
-          let d = form-same (widthOf line) (number (scalarOf line)) (bitCount (scalarOf line)) (two (subst (λ r. First (lineRules line) r 0) z (A .first))) (formOf line) ds es f g in
+          let d = form-same (widthOf line) (number (scalarOf line)) (bitCount (scalarOf line)) (two (A .first) z) (formOf line) ds es f g in
           e ∙ ap (λ x. written (acceptedBytes x) ++ (lineFeed ∷ [])) d ∙ sym h
       go (no n) = A .refused n ∙ ap (λ r. written (r ∷ []) ++ (lineFeed ∷ [])) same ∙ sym (B .refused (λ e. n (same ∙ e)))
 
 -- ---- a whole input
 pub answers-determined : (ls : List (List ℕ)) (a b : List ℕ) → Answers ls a → Answers ls b → a ≡ b
-unfolding Answers
+unfolding Each
 answers-determined [] a b A B = A ∙ sym B
 answers-determined (l ∷ ls) a b (u, v, A, As, e) (x, y, B, Bs, f) =
     e ∙ ap (λ t. t ++ v) (answer-determined l u x A B) ∙ ap (λ t. x ++ t) (answers-determined ls v y As Bs) ∙ sym f
@@ -78,7 +79,7 @@ module _ (line bytes₀ : List ℕ) (digits₀ : List ℤ) (marks₀ out₀ : Li
   Fills o = Filled line bytes₀ digits₀ marks₀ out₀ (o .count) (o .bytes) (o .digits) (o .marks) (o .out)
 
   abbrev Works : Outcome → Type 0
-  Works o = (n : ℕ) × (p : ℕ) × (k : ℕ) × (t : ℕ) × Worked line bytes₀ digits₀ marks₀ (o .bytes) (o .digits) (o .marks) n p k t
+  Works o = (a : Tally) × Worked line bytes₀ digits₀ marks₀ (o .bytes) (o .digits) (o .marks) a
 
   enough? : Dec (Lent bytes₀ digits₀ marks₀ out₀)
   enough? = go (decLe mostFrame (length bytes₀)) (decLe mostPlaces (length digits₀)) (decLe markWords (length marks₀)) (decLe mostAnswer (length out₀))
@@ -92,10 +93,9 @@ module _ (line bytes₀ : List ℕ) (digits₀ : List ℤ) (marks₀ out₀ : Li
 
   -- what is worked in is the same
   same-work : (o o′ : Outcome) → Works o → Works o′ → (o .bytes ≡ o′ .bytes) × (o .digits ≡ o′ .digits) × (o .marks ≡ o′ .marks)
-  same-work o o′ (n, p, k, t, W) (n′, p′, k′, t′, W′) =
+  same-work o o′ (a, W) (a′, W′) =
       let e = recode-determined (formOf line) (widthOf line) (scalarOf line) digits₀ marks₀
-      (record { tally = record { refusal = n; place = p; weight = k; top = t }; digits = o .digits; marks = o .marks })
-      (record { tally = record { refusal = n′; place = p′; weight = k′; top = t′ }; digits = o′ .digits; marks = o′ .marks }) (W .recoded) (W′ .recoded) in
+      (record { tally = a; digits = o .digits; marks = o .marks }) (record { tally = a′; digits = o′ .digits; marks = o′ .marks }) (W .recoded) (W′ .recoded) in
       (W .bytes-are ∙ sym (W′ .bytes-are), ap (λ (x : Recoding.Outcome). x .digits) e, ap (λ (x : Recoding.Outcome). x .marks) e)
 
   same-kept : (o o′ : Outcome) → Kept bytes₀ digits₀ marks₀ (o .bytes) (o .digits) (o .marks) → Kept bytes₀ digits₀ marks₀ (o′ .bytes) (o′ .digits) (o′ .marks) → (o .bytes ≡ o′ .bytes) × (o .digits ≡ o′ .digits) × (o .marks ≡ o′ .marks)

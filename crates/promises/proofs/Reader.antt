@@ -1,7 +1,7 @@
 -- The promises of the reader: two outcomes of `new`, of `next` and of `read_at` that satisfy them are equal; and a reader that is right in its first window and zero after,
 -- one that is done at once and one that is never done cannot satisfy them, over `new` and a chain of `next` as over `read_at`. Assumes nothing.
 use mathlib.Core.Path.{_≡_, refl, sym, ap, subst, _∙_}
-use mathlib.Core.Logic.{_≢_, inr, ⊎-elim}
+use mathlib.Core.Logic.{_≢_, ⊎-elim}
 use mathlib.Core.List.{List, [], _∷_}
 use Prim.Native.Nat.{ℕ, suc, _+_, _≤_}
 use native.Mathlib.Omega.{arith}
@@ -13,7 +13,7 @@ use Rattle.meaning.specs.Scalars.{number}
 use Rattle.meaning.specs.Windows.{windowWorth, shrink}
 use Rattle.meaning.specs.Wmof.{wmofUnder, wmof}
 use Rattle.meaning.specs.Reading.{Holds, readerRules, sequence, Read, digit, done, readAt}
-use Rattle.forms.proofs.Refusals.{first-only}
+use Rattle.forms.proofs.Refusals.{first-only, first-none}
 use Rattle.reader.specs.declared.Next.{Next}
 use Rattle.reader.specs.declared.Next.the-variants.{Digit, Done}
 use Rattle.reader.specs.declared.Reader.{Reader}
@@ -21,11 +21,10 @@ use Rattle.reader.specs.declared.Reading.{Reading}
 use Rattle.reader.specs.States.{starting, after}
 use Rattle.reader.specs.Calls.{readOf, stateOf, readerOf, Made, Called, Answered}
 use Rattle.reader.proofs.Calls.{answer-at}
-use Rattle.promises.proofs.Rules.{reader-tells}
 
 -- one number held
 pub same-number : (w : ℕ) (s : List ℕ) (r r′ : ℕ) → Holds w s r → Holds w s r′ → r ≡ r′
-same-number w s r r′ a b = first-only (readerRules w s) (reader-tells w s) r 0 r′ 0 a b .0
+same-number w s r r′ a b = first-only (readerRules w s) a b .0
 
 -- what a call gives is told by document 01's
 read-same : (a b : Next) → readOf a ≡ readOf b → a ≡ b
@@ -60,7 +59,7 @@ size done = 0
 
 -- 13 at width 2 is accepted, and read 0 0 0 0 1 0 0 -1 -1
 holds-none : Holds 2 (13 ∷ []) 0
-holds-none = inr ((λ q h. ⊎-elim (λ l. omega arith) (λ l. omega arith) (h .0)), inr ((λ q h. omega arith), (refl, refl)))
+holds-none = first-none (readerRules 2 (13 ∷ [])) (⊎-elim (λ l. omega arith) (λ l. omega arith), ((λ h. omega arith), tt))
 
 -- answers that are its sequence, call by call
 module _ (answer : ℕ → Read) (given : (k : ℕ) → answer k ≡ readAt (sequence 0 2 (13 ∷ [])) k) where

@@ -1,7 +1,7 @@
 -- Calls that cannot keep their promise: refusing everything, one fixed string for all scalars, not writing at all, writing on a refusal, two refusals in the other
 -- order, invented step counts, a verdict that does not depend on the scalar. Each is a theorem: a call with that behaviour that kept its promise at every input would give a contradiction. Assumes nothing.
 use mathlib.Core.Path.{_≡_, refl, sym, ap, _∙_}
-use mathlib.Core.Logic.{_≢_, _⊎_, inl, inr}
+use mathlib.Core.Logic.{_≢_, _⊎_, inl, inr, ⊎-elim}
 use mathlib.Core.List.{List, [], _∷_}
 use Prim.Native.Nat.{ℕ, zero, suc, _+_, _<_}
 use native.Mathlib.Omega.{arith}
@@ -9,34 +9,29 @@ use lib.Dec.{lit<, lit≤}
 use lib.IntN.{ℤ, pos, negsuc, natAbs}
 use lib.ListN.{length, getD, take, replicate, List·getD-eq-default}
 use Rattle.meaning.specs.Scalars.{number, bitCount}
-use Rattle.meaning.specs.Digits.{worth, weight, top, nonzero, inSet, allIn, Apart}
-use Rattle.meaning.specs.Refusals.{Rule, First, granted}
+use Rattle.meaning.specs.Digits.{worth, weight, nonzero, inSet, allIn, Tally, Apart}
+use Rattle.meaning.specs.Refusals.{Rule, First}
+use Rattle.meaning.specs.Forms.{asked, Has}
 use Rattle.meaning.specs.Recoding.{recodeRules}
 use Rattle.meaning.specs.Checking.{checkRules, nonadjacentRules}
-use Rattle.meaning.specs.Taping.{doublings, additions}
-use Rattle.meaning.specs.Running.{runRules}
-use Rattle.meaning.specs.Searching.{searchRules, Search}
-use Rattle.meaning.specs.Lines.{nibble, allHex, bytesOf, malformed, written, lineRules, Answer}
+use Rattle.meaning.specs.Walks.{doublings, additions}
+use Rattle.meaning.specs.Taping.{Taped}
+use Rattle.meaning.specs.Running.{runRules, Run, Ran}
+use Rattle.meaning.specs.Searching.{searchRules, Searched, Search}
+use Rattle.meaning.specs.Hexadecimal.{nibble, allHex, bytesOf, written}
+use Rattle.meaning.specs.Frames.{malformed, lineRules, Answer}
 use Rattle.forms.specs.Wnaf.{wnafDigit, wnafNext, wnafFrom}
-use Rattle.forms.proofs.Refusals.{first-only, kept-lent, granted-all}
+use Rattle.forms.proofs.Refusals.{first-only, first-at, first-none, kept-lent, granted-all}
+use Rattle.forms.proofs.Wnaf.{wnaf-is}
 use Rattle.scalar.proofs.Bytes.{Bytes, number-lt}
-use Rattle.recoder.specs.declared.Tally.{Tally}
-use Rattle.recoder.proofs.Formed.{is-wnaf}
-use Rattle.recoder.proofs.Judging.{refuses-2, refuses-none}
-use Rattle.tape.specs.declared.Taped.{Taped}
-use Rattle.run.specs.declared.Ran.{Ran}
-use Rattle.run.specs.declared.Outcome.the-variants.{Residue}
-use Rattle.run.specs.Outcomes.{refusalOf, Promise}
-use Rattle.search.specs.declared.Searched.{Searched}
-use Rattle.judge.specs.declared.Verdict.{Verdict}
-use Rattle.width.proofs.Widths.{width-fine, not-plain}
-use Rattle.promises.proofs.Rules.{recode-tells, check-tells, tape-tells, run-tells, search-tells, line-tells}
+use Rattle.width.proofs.Widths.{width-fine}
+use Rattle.recoder.proofs.Refusals.{admits}
 use Rattle.promises.proofs.Recode as Recoding
 use Rattle.promises.proofs.Recode.{recode-determined}
 use Rattle.promises.proofs.Tape as Taping
 use Rattle.promises.proofs.Check as Checking
 use Rattle.promises.proofs.Check.{Legal, check-yes, check-yes-only, nonadjacent-yes-only}
-use Rattle.promises.proofs.Known.{Answered, allowed, answered, Written, taped, ran, eleventh}
+use Rattle.promises.proofs.Known.{Answered, allowed, answered, Written, taped, ranTo, ran, eleventh}
 use Rattle.promises.proofs.Demand3.{taped-additions, taped-doublings}
 use Rattle.promises.proofs.Instances.{recode-kept-by, check-kept-by, nonadjacent-kept-by, tape-kept-by, run-kept-by}
 
@@ -76,10 +71,10 @@ module _ (c : Recoder) where
   of-byte x h = c .call 2 2 (x ∷ []) (one-byte x h) digits-lent marks-lent
 
   byte-answer : (x : ℕ) (h : x < 256) → Answered (x ∷ []) (wnafFrom 2 9 (number (x ∷ []))) digits-lent marks-lent (of-byte x h)
-  unfolding digits-lent marks-lent of-byte
+  unfolding digits-lent marks-lent of-byte asked Has
   byte-answer x h =
       let small = number-lt (x ∷ []) (one-byte x h) in
-      answered 2 2 (x ∷ []) (wnafFrom 2 9 (number (x ∷ []))) (allowed 2 2 tt) (lit≤ tt) small (is-wnaf 2 2 (number (x ∷ [])) 8 _ (lit≤ tt) small refl refl) digits-lent marks-lent (lit≤ tt) (lit≤ tt)
+      answered 2 2 (x ∷ []) (wnafFrom 2 9 (number (x ∷ []))) (allowed 2 2 tt) (lit≤ tt) small (wnaf-is 2 (number (x ∷ [])) 8 (lit≤ tt) small) digits-lent marks-lent (lit≤ tt) (lit≤ tt)
       (of-byte x h) (c .keeps 2 2 (x ∷ []) (one-byte x h) digits-lent marks-lent)
 
   -- it is accepted
@@ -134,7 +129,7 @@ module _ (c : Recoder) where
   recode-not-swapped r =
       let s : List ℕ = replicate 67 0 in
       let K = c .keeps 2 9 s (zero-bytes 67) [] [] in
-      let e = first-only (recodeRules 2 9 s 0 0) (recode-tells 2 9 s 0 0) _ _ _ _ (K .first) (refuses-2 2 9 s 0 0 (lit≤ tt) (lit≤ tt) (inl (inr (lit< tt)))) .0 in
+      let e = first-only (recodeRules 2 9 s 0 0) (K .first) (first-at (recodeRules 2 9 s 0 0) 1 0 (⊎-elim (λ l. omega arith) (λ l. omega arith), (inl (inr (lit< tt)), refl))) .0 in
       let z : _≡_ {A = ℕ} 3 2 = sym (r 2 9 s (zero-bytes 67) [] [] (lit< tt)) ∙ e in
       omega arith
 
@@ -193,7 +188,7 @@ module _ (t : Taper) where
 pub record Runner : Type 0 where
   pub call : (w : ℕ) (ws : List ℕ) (m g : ℕ) (multiples₀ : List ℕ) → Ran
   pub multiples : (w : ℕ) (ws : List ℕ) (m g : ℕ) (multiples₀ : List ℕ) → List ℕ
-  pub keeps : (w : ℕ) (ws : List ℕ) (m g : ℕ) (multiples₀ : List ℕ) → Promise w ws m g multiples₀ (call w ws m g multiples₀) (multiples w ws m g multiples₀)
+  pub keeps : (w : ℕ) (ws : List ℕ) (m g : ℕ) (multiples₀ : List ℕ) → Run w ws m g multiples₀ (call w ws m g multiples₀) (multiples w ws m g multiples₀)
 
 -- there is one
 pub runner : Runner
@@ -206,47 +201,46 @@ runner =
 
 module _ (c : Runner) where
   -- what it does with the tape of P11
-  thirteen-ran : (c .call 2 (0x1000 ∷ 0 ∷ 0 ∷ 0x4000 ∷ 0 ∷ 0 ∷ 0x3000 ∷ []) 1000 7 (9 ∷ []) ≡ record { outcome = Residue 91; doublings = 4; additions = 2; cost = 0 })
+  thirteen-ran : (c .call 2 (0x1000 ∷ 0 ∷ 0 ∷ 0x4000 ∷ 0 ∷ 0 ∷ 0x3000 ∷ []) 1000 7 (9 ∷ []) ≡ ranTo 2 91 4 2)
       × (c .multiples 2 (0x1000 ∷ 0 ∷ 0 ∷ 0x4000 ∷ 0 ∷ 0 ∷ 0x3000 ∷ []) 1000 7 (9 ∷ []) ≡ 7 ∷ [])
   thirteen-ran = ran 2 _ _ 1000 7 91 4 2 (7 ∷ []) eleventh (9 ∷ []) (lit≤ tt) _ _ (c .keeps 2 _ 1000 7 (9 ∷ []))
 
   -- refusing everything
-  pub run-not-refusing : ((w : ℕ) (ws : List ℕ) (m g : ℕ) (multiples₀ : List ℕ) → refusalOf (c .call w ws m g multiples₀ .outcome) ≢ 0) → ⊥
-  run-not-refusing r = r 2 _ 1000 7 (9 ∷ []) (ap (λ (x : Ran). refusalOf (x .outcome)) (thirteen-ran .0))
+  pub run-not-refusing : ((w : ℕ) (ws : List ℕ) (m g : ℕ) (multiples₀ : List ℕ) → c .call w ws m g multiples₀ .refusal ≢ 0) → ⊥
+  run-not-refusing r = r 2 _ 1000 7 (9 ∷ []) (ap (λ (x : Ran). x .refusal) (thirteen-ran .0))
 
   -- storing no multiples
   pub run-not-idle : ((w : ℕ) (ws : List ℕ) (m g : ℕ) (multiples₀ : List ℕ) → c .multiples w ws m g multiples₀ ≡ multiples₀) → ⊥
   run-not-idle r = let z : _≡_ {A = ℕ} 9 7 = ap (λ ws. getD ws 0 0) (sym (r 2 _ 1000 7 (9 ∷ [])) ∙ thirteen-ran .1) in omega arith
 
   -- storing multiples on a refusal
-  pub run-not-storing : (w : ℕ) (ws : List ℕ) (m g : ℕ) (multiples₀ : List ℕ) → refusalOf (c .call w ws m g multiples₀ .outcome) ≢ 0 → c .multiples w ws m g multiples₀ ≢ multiples₀ → ⊥
-  run-not-storing w ws m g multiples₀ n h = h (c .keeps w ws m g multiples₀ .run .multiples-are ∙ kept-lent (refusalOf (c .call w ws m g multiples₀ .outcome)) _ multiples₀ n)
+  pub run-not-storing : (w : ℕ) (ws : List ℕ) (m g : ℕ) (multiples₀ : List ℕ) → c .call w ws m g multiples₀ .refusal ≢ 0 → c .multiples w ws m g multiples₀ ≢ multiples₀ → ⊥
+  run-not-storing w ws m g multiples₀ n h = h (c .keeps w ws m g multiples₀ .multiples-are ∙ kept-lent (c .call w ws m g multiples₀ .refusal) _ multiples₀ n)
 
   -- invented counts: at no accepted input is the report another than the counts of the tape's words
   pub run-not-inventing : (w : ℕ) (ws : List ℕ) (m g : ℕ) (multiples₀ : List ℕ) → let r = c .call w ws m g multiples₀ in
-      refusalOf (r .outcome) ≡ 0 → (r .doublings ≢ doublings ws) ⊎ (r .additions ≢ additions ws) → ⊥
-  run-not-inventing w ws m g multiples₀ z (inl n) = n (c .keeps w ws m g multiples₀ .run .doublings-are ∙ granted-all _ (doublings ws) z)
-  run-not-inventing w ws m g multiples₀ z (inr n) = n (c .keeps w ws m g multiples₀ .run .additions-are ∙ granted-all _ (additions ws) z)
+      r .refusal ≡ 0 → (r .doublings ≢ doublings ws) ⊎ (r .additions ≢ additions ws) → ⊥
+  run-not-inventing w ws m g multiples₀ z (inl n) = n (c .keeps w ws m g multiples₀ .doublings-are ∙ granted-all _ (doublings ws) z)
+  run-not-inventing w ws m g multiples₀ z (inr n) = n (c .keeps w ws m g multiples₀ .additions-are ∙ granted-all _ (additions ws) z)
 
   -- the modulus looked at before the width
-  pub run-not-swapped : ((w : ℕ) (ws : List ℕ) (g : ℕ) (multiples₀ : List ℕ) → refusalOf (c .call w ws 0 g multiples₀ .outcome) ≡ 12) → ⊥
+  pub run-not-swapped : ((w : ℕ) (ws : List ℕ) (g : ℕ) (multiples₀ : List ℕ) → c .call w ws 0 g multiples₀ .refusal ≡ 12) → ⊥
   run-not-swapped r =
-      let K = c .keeps 9 [] 0 0 [] .run in
-      let e = first-only (runRules 9 [] 0 0) (run-tells 9 [] 0 0) _ _ 2 0 (K .first) (inl (refl, (inr (lit< tt), refl))) .0 in
+      let e = first-only (runRules 9 [] 0 0) (c .keeps 9 [] 0 0 [] .first) (first-at (runRules 9 [] 0 0) 0 0 (inr (lit< tt), refl)) .0 in
       let z : _≡_ {A = ℕ} 12 2 = sym (r 9 [] 0 []) ∙ e in
       omega arith
 
 -- ---- the search
 -- refusing everything
-pub search-not-refusing : (call : (number w : ℕ) → Searched) → ((number w : ℕ) → Search number w (call number w .refusal) (call number w .weight)) → ((number w : ℕ) → call number w .refusal ≢ 0) → ⊥
+pub search-not-refusing : (call : (number w : ℕ) → Searched) → ((number w : ℕ) → Search number w (call number w)) → ((number w : ℕ) → call number w .refusal ≢ 0) → ⊥
 search-not-refusing call keeps r =
-    r 0 2 (first-only (searchRules 0 2) (search-tells 0 2) _ _ 0 0 (keeps 0 2 .first) (inr ((λ q h. h .0 .0 refl), inr ((λ q h. omega arith), (refl, refl)))) .0)
+    r 0 2 (first-only (searchRules 0 2) (keeps 0 2 .first) (first-none (searchRules 0 2) ((λ h. h .0 refl), ((λ h. omega arith), tt))) .0)
 
 -- ---- the checks
 -- the string 1 is worth the byte 1, and 2 it is not
 one-legal : Legal 2 (1 ∷ []) (pos 1 ∷ [])
 unfolding allIn inSet worth number
-one-legal = record { lawful = (lit≤ tt, lit≤ tt); few = lit≤ tt; short = lit≤ tt; digits = tt; worth-is = refl }
+one-legal = record { wide = (lit≤ tt, lit≤ tt); few = lit≤ tt; short = lit≤ tt; digits = tt; worth-is = refl }
 
 one-apart : Apart 2 (pos 1 ∷ [])
 one-apart = record { one-of = λ i j l m h. List·getD-eq-default (pos 1 ∷ []) (pos 0) {n = j} (omega arith) }
@@ -257,7 +251,7 @@ not-two L = let z : _≡_ {A = ℕ} 1 2 = ap natAbs (L .worth-is) in omega arith
 
 -- a verdict for every input, which keeps the promise of a check by the given rules
 pub record Checker (rules : (w : ℕ) (s : List ℕ) (ds : List ℤ) → List Rule) : Type 0 where
-  pub call : (w : ℕ) (s : List ℕ) (ds : List ℤ) → Verdict
+  pub call : (w : ℕ) (s : List ℕ) (ds : List ℤ) → Tally
   pub keeps : (w : ℕ) (s : List ℕ) (ds : List ℤ) → Checking.Keeps (rules w s ds) ds (call w s ds)
 
 -- there is one of either kind
@@ -269,16 +263,16 @@ nonadjacent-checker = record { call = λ w s ds. nonadjacent-kept-by w s ds .0; 
 
 -- refusing everything
 pub check-not-refusing : (c : Checker checkRules) → ((w : ℕ) (s : List ℕ) (ds : List ℤ) → c .call w s ds .refusal ≢ 0) → ⊥
-check-not-refusing c r = r 2 (1 ∷ []) (pos 1 ∷ []) (ap (λ (v : Verdict). v .refusal) (check-yes-only 2 (1 ∷ []) (pos 1 ∷ []) one-legal _ (c .keeps 2 (1 ∷ []) (pos 1 ∷ []))))
+check-not-refusing c r = r 2 (1 ∷ []) (pos 1 ∷ []) (ap (λ (v : Tally). v .refusal) (check-yes-only 2 (1 ∷ []) (pos 1 ∷ []) one-legal _ (c .keeps 2 (1 ∷ []) (pos 1 ∷ []))))
 
 pub nonadjacent-not-refusing : (c : Checker nonadjacentRules) → ((w : ℕ) (s : List ℕ) (ds : List ℤ) → c .call w s ds .refusal ≢ 0) → ⊥
 nonadjacent-not-refusing c r =
-    r 2 (1 ∷ []) (pos 1 ∷ []) (ap (λ (v : Verdict). v .refusal) (nonadjacent-yes-only 2 (1 ∷ []) (pos 1 ∷ []) one-legal one-apart _ (c .keeps 2 (1 ∷ []) (pos 1 ∷ []))))
+    r 2 (1 ∷ []) (pos 1 ∷ []) (ap (λ (v : Tally). v .refusal) (nonadjacent-yes-only 2 (1 ∷ []) (pos 1 ∷ []) one-legal one-apart _ (c .keeps 2 (1 ∷ []) (pos 1 ∷ []))))
 
 -- saying yes whatever the scalar is
 pub check-not-blind : (c : Checker checkRules) → ((w : ℕ) (s t : List ℕ) (ds : List ℤ) → length s ≡ length t → c .call w s ds .refusal ≡ 0 → c .call w t ds .refusal ≡ 0) → ⊥
 check-not-blind c r =
-    let one = ap (λ (v : Verdict). v .refusal) (check-yes-only 2 (1 ∷ []) (pos 1 ∷ []) one-legal _ (c .keeps 2 (1 ∷ []) (pos 1 ∷ []))) in
+    let one = ap (λ (v : Tally). v .refusal) (check-yes-only 2 (1 ∷ []) (pos 1 ∷ []) one-legal _ (c .keeps 2 (1 ∷ []) (pos 1 ∷ []))) in
     not-two (check-yes 2 (2 ∷ []) (pos 1 ∷ []) _ (c .keeps 2 (2 ∷ []) (pos 1 ∷ [])) (r 2 (1 ∷ []) (2 ∷ []) (pos 1 ∷ []) refl one))
 
 -- the string's length looked at before the scalar's
@@ -286,7 +280,7 @@ pub check-not-swapped : (c : Checker checkRules) → ((w : ℕ) (s : List ℕ) (
 check-not-swapped c r =
     let s : List ℕ = replicate 67 0 in
     let ds : List ℤ = replicate 530 (pos 0) in
-    let e = first-only (checkRules 2 s ds) (check-tells 2 s ds) _ _ 3 0 (c .keeps 2 s ds .first) (inr (width-fine (lit≤ tt, lit≤ tt), inl (refl, (lit< tt, refl)))) .0 in
+    let e = first-only (checkRules 2 s ds) (c .keeps 2 s ds .first) (first-at (checkRules 2 s ds) 1 0 (width-fine (lit≤ tt, lit≤ tt), (lit< tt, refl))) .0 in
     let z : _≡_ {A = ℕ} 7 3 = sym (r 2 s ds (lit< tt)) ∙ e in
     omega arith
 
@@ -297,12 +291,12 @@ one-line = 48 ∷ 50 ∷ 48 ∷ 50 ∷ 48 ∷ 49 ∷ 48 ∷ 49 ∷ []
 
 one-line-first : First (lineRules one-line) 0 0
 unfolding one-line malformed bytesOf allHex nibble number
-one-line-first = inr ((λ q h. h .0), refuses-none 2 2 (1 ∷ []) 9 9 (allowed 2 2 tt) (lit≤ tt) (lit≤ tt) (lit≤ tt) (lit< tt))
+one-line-first = first-none (lineRules one-line) ((λ h. h), admits 2 2 (1 ∷ []) 9 9 (allowed 2 2 tt) (lit≤ tt) (lit≤ tt) (lit≤ tt) (lit< tt))
 
 -- refusing everything: no answer begins with the number 0
 pub line-not-refusing : (call : List ℕ → List ℕ) → ((line : List ℕ) → Answer line (call line)) → ((line : List ℕ) → take 2 (call line) ≢ 48 ∷ 48 ∷ []) → ⊥
 unfolding written
 line-not-refusing call keeps r =
     let A = keeps one-line in
-    let (ds, f, e) = A .accepted (first-only (lineRules one-line) (line-tells one-line) _ _ 0 0 (A .first) one-line-first .0) in
+    let (ds, f, e) = A .accepted (first-only (lineRules one-line) (A .first) one-line-first .0) in
     r one-line (ap (take 2) e)

@@ -1,4 +1,4 @@
--- The promise of run: two outcomes that satisfy it for one input are equal, the enum of the answer included. Assumes nothing.
+-- The promise of run: two outcomes that satisfy it for one input are equal, on the plain numbers and on the enum of the answer. Assumes nothing.
 use mathlib.Core.Path.{_≡_, sym, ap, _∙_}
 use mathlib.Core.List.{List, _++_}
 use Prim.Native.Nat.{ℕ, _-_}
@@ -6,57 +6,61 @@ use native.Mathlib.Decide.{ℕ-discrete}
 use lib.IntN.{ℤ, pos, _*ℤ_}
 use lib.ListN.{length, drop}
 use Rattle.laws.proofs.Division.{same-floor}
+use Rattle.meaning.specs.Digits.{largest, entries}
 use Rattle.meaning.specs.Refusals.{granted, kept}
-use Rattle.meaning.specs.Taping.{tapeValue, doublings, additions}
-use Rattle.meaning.specs.Running.{entries, multiplesOf, Residue, runRules, Run}
+use Rattle.meaning.specs.Walks.{tapeValue, doublings, additions}
+use Rattle.meaning.specs.Running as Running
+use Rattle.meaning.specs.Running.{multiplesOf, Residue, runRules, Run}
 use Rattle.forms.proofs.Refusals.{first-only}
 use Rattle.run.specs.declared.Outcome.{Outcome}
 use Rattle.run.specs.declared.Outcome.the-variants as variants
 use Rattle.run.specs.declared.Ran.{Ran}
-use Rattle.run.specs.Outcomes.{refusalOf, placeOf, residueOf, Numbered, Promise}
-use Rattle.promises.proofs.Rules.{run-tells}
+use Rattle.run.specs.Outcomes.{refusalOf, placeOf, residueOf, Numbered, answer, Promise}
 
 -- one residue only
 pub residue-same : (m : ℕ) (z : ℤ) (x y : ℕ) → Residue m z x → Residue m z y → x ≡ y
 residue-same m z x y a b = same-floor m (a .quotient) (b .quotient) x y (sym (a .is) ∙ b .is) (a .least) (b .least) .1
 
--- an outcome is told by its number, its place and its residue, where no refusal has the number 0
-outcome-same : (a b : Outcome) → Numbered a → Numbered b → refusalOf a ≡ refusalOf b → placeOf a ≡ placeOf b → residueOf a ≡ residueOf b → a ≡ b
-outcome-same (variants.Residue x) (variants.Residue y) n k r p e = ap variants.Residue e
-outcome-same (variants.Residue x) (variants.Refused g) n k r p e = absurd (k (sym r))
-outcome-same (variants.Refused f) (variants.Residue y) n k r p e = absurd (n r)
-outcome-same (variants.Refused f) (variants.Refused g) n k r p e =
-    ap (λ x. variants.Refused (record { number = x; place = f .place })) r ∙ ap (λ x. variants.Refused (record { number = g .number; place = x })) p
-
--- answers are equal by their fields
-ran-same : (a b : Ran) → a .outcome ≡ b .outcome → a .doublings ≡ b .doublings → a .additions ≡ b .additions → a .cost ≡ b .cost → a ≡ b
-ran-same a b o d n k =
-    ap (λ x. record { outcome = x; doublings = a .doublings; additions = a .additions; cost = a .cost }) o
-    ∙ ap (λ x. record { outcome = b .outcome; doublings = x; additions = a .additions; cost = a .cost }) d
-    ∙ ap (λ x. record { outcome = b .outcome; doublings = b .doublings; additions = x; cost = a .cost }) n
-    ∙ ap (λ x. record { outcome = b .outcome; doublings = b .doublings; additions = b .additions; cost = x }) k
-
--- on plain numbers: two outcomes that satisfy the promise have the same fields
 module _ (w : ℕ) (ws : List ℕ) (m g : ℕ) (multiples₀ : List ℕ) where
-  pub run-plain : {r p x d a c r′ p′ x′ d′ a′ c′ : ℕ} {ms ns : List ℕ} → Run w ws m g multiples₀ r p x d a c ms → Run w ws m g multiples₀ r′ p′ x′ d′ a′ c′ ns
-      → (r ≡ r′) × (p ≡ p′) × (x ≡ x′) × (d ≡ d′) × (a ≡ a′) × (c ≡ c′) × (ms ≡ ns)
-  run-plain {r} {x = x} {r′ = r′} {x′ = x′} K L =
-      let (e, p) = first-only (runRules w ws m (length multiples₀)) (run-tells w ws m (length multiples₀)) _ _ _ _ (K .first) (L .first) in (
-        e,
-        p,
-        same e (ℕ-discrete r 0),
-        K .doublings-are ∙ ap (λ t. granted t (doublings ws)) e ∙ sym (L .doublings-are),
-        K .additions-are ∙ ap (λ t. granted t (additions ws)) e ∙ sym (L .additions-are),
-        K .cost-is ∙ ap (λ t. granted t (entries w - 1)) e ∙ sym (L .cost-is),
-        K .multiples-are ∙ ap (λ t. kept t (multiplesOf w m g ++ drop (entries w) multiples₀) multiples₀) e ∙ sym (L .multiples-are),
-      )
+  -- on plain numbers
+  told : (r p x d n c : ℕ) → Running.Ran
+  told r p x d n c = record { refusal = r; place = p; residue = x; doublings = d; additions = n; cost = c }
+
+  pub run-plain : (a b : Running.Ran) (ms ns : List ℕ) → Run w ws m g multiples₀ a ms → Run w ws m g multiples₀ b ns → (a ≡ b) × (ms ≡ ns)
+  unfolding told
+  run-plain a b ms ns K L =
+      let count = entries (largest w) in
+      let (r, p) = first-only (runRules w ws m (length multiples₀)) (K .first) (L .first) in
+      let x = same r (ℕ-discrete (a .refusal) 0) in
+      let d = K .doublings-are ∙ ap (λ t. granted t (doublings ws)) r ∙ sym (L .doublings-are) in
+      let n = K .additions-are ∙ ap (λ t. granted t (additions ws)) r ∙ sym (L .additions-are) in
+      let c = K .cost-is ∙ ap (λ t. granted t (count - 1)) r ∙ sym (L .cost-is) in
+      let e : told (a .refusal) (a .place) (a .residue) (a .doublings) (a .additions) (a .cost) ≡ told (b .refusal) (b .place) (b .residue) (b .doublings) (b .additions) (b .cost) = cc in
+      (e, K .multiples-are ∙ ap (λ t. kept t (multiplesOf count m g ++ drop count multiples₀) multiples₀) r ∙ sym (L .multiples-are))
     where
-      same : r ≡ r′ → Dec (r ≡ 0) → x ≡ x′
-      same e (yes z) = residue-same m (tapeValue ws *ℤ pos g) x x′ (K .residue-is z) (L .residue-is (sym e ∙ z))
+      same : a .refusal ≡ b .refusal → Dec (a .refusal ≡ 0) → a .residue ≡ b .residue
+      same e (yes z) = residue-same m (tapeValue ws *ℤ pos g) (a .residue) (b .residue) (K .residue-is z) (L .residue-is (sym e ∙ z))
       same e (no n) = K .residue-none n ∙ sym (L .residue-none (λ z. n (e ∙ z)))
 
-  -- and on the enum of the answer
+  -- an outcome is told by its number, its place and its residue, where no refusal has the number 0
+  outcome-same : (a b : Outcome) → Numbered a → Numbered b → refusalOf a ≡ refusalOf b → placeOf a ≡ placeOf b → residueOf a ≡ residueOf b → a ≡ b
+  outcome-same (variants.Residue x) (variants.Residue y) n k r p e = ap variants.Residue e
+  outcome-same (variants.Residue x) (variants.Refused g) n k r p e = absurd (k (sym r))
+  outcome-same (variants.Refused f) (variants.Residue y) n k r p e = absurd (n r)
+  outcome-same (variants.Refused f) (variants.Refused g) n k r p e =
+      ap (λ x. variants.Refused (record { number = x; place = f .place })) r ∙ ap (λ x. variants.Refused (record { number = g .number; place = x })) p
+
+  made : Outcome → (d n c : ℕ) → Ran
+  made o d n c = record { outcome = o; doublings = d; additions = n; cost = c }
+
+  -- on the enum of the answer
   pub run-determined : (a b : Ran) (ms ns : List ℕ) → Promise w ws m g multiples₀ a ms → Promise w ws m g multiples₀ b ns → (a ≡ b) × (ms ≡ ns)
+  unfolding made
   run-determined a b ms ns P Q =
-      let (r, p, x, d, n, c, e) = run-plain (P .run) (Q .run) in
-      (ran-same a b (outcome-same (a .outcome) (b .outcome) (P .numbered) (Q .numbered) r p x) d n c, e)
+      let (q, e) = run-plain (answer a) (answer b) ms ns (P .run) (Q .run) in
+      let o = outcome-same (a .outcome) (b .outcome) (P .numbered) (Q .numbered) (ap (λ (x : Running.Ran). x .refusal) q) (ap (λ (x : Running.Ran). x .place) q) (ap (λ (x : Running.Ran). x .residue) q) in
+      let d = ap (λ (x : Running.Ran). x .doublings) q in
+      let n = ap (λ (x : Running.Ran). x .additions) q in
+      let c = ap (λ (x : Running.Ran). x .cost) q in
+      let same : made (a .outcome) (a .doublings) (a .additions) (a .cost) ≡ made (b .outcome) (b .doublings) (b .additions) (b .cost) = cc in
+      (same, e)

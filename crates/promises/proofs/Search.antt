@@ -4,20 +4,18 @@ use Prim.Native.Nat.{ℕ}
 use native.Mathlib.Omega.{arith}
 use native.Mathlib.Decide.{ℕ-discrete}
 use lib.IntN.{ℤ}
-use Rattle.meaning.specs.Searching.{LeastWeight, searchRules, Search}
+use Rattle.meaning.specs.Searching.{LeastWeight, searchRules, Searched, Search}
 use Rattle.forms.proofs.Refusals.{first-only}
-use Rattle.search.specs.declared.Searched.{Searched}
-use Rattle.promises.proofs.Rules.{search-tells}
 
 -- one least weight only
 least-same : {w places k k′ : ℕ} {z : ℤ} → LeastWeight w places z k → LeastWeight w places z k′ → k ≡ k′
 least-same a b = omega (arith, a .least (b .string) (b .spells), b .least (a .string) (a .spells), a .weight-is, b .weight-is)
 
-pub search-determined : (number w : ℕ) (a b : Searched) → Search number w (a .refusal) (a .weight) → Search number w (b .refusal) (b .weight) → a ≡ b
+pub search-determined : (number w : ℕ) (a b : Searched) → Search number w a → Search number w b → a ≡ b
 search-determined number w a b K L = go (ℕ-discrete (a .refusal) 0)
   where
     one : a .refusal ≡ b .refusal
-    one = first-only (searchRules number w) (search-tells number w) _ _ _ _ (K .first) (L .first) .0
+    one = first-only (searchRules number w) (K .first) (L .first) .0
 
     made : a .weight ≡ b .weight → a ≡ b
     made e = ap (λ x. record { refusal = x; weight = a .weight }) one ∙ ap (λ x. record { refusal = b .refusal; weight = x }) e

@@ -3,7 +3,7 @@
 use mathlib.Core.Path.{ap}
 use mathlib.Core.Logic.{_≢_}
 use mathlib.Core.List.{List, [], _∷_}
-use Prim.Native.Nat.{ℕ, _<_, _≤_}
+use Prim.Native.Nat.{ℕ, _≤_}
 use native.Mathlib.Omega.{arith}
 use lib.Count.{trailingZeros}
 use lib.Dec.{lit<, lit≤}
@@ -17,28 +17,30 @@ use Rattle.meaning.specs.Wmof.{wmof, wmofUnder}
 use Rattle.forms.specs.Wnaf.{wnafDigit, wnafNext, wnafFrom}
 use Rattle.forms.specs.Closest.{closestOf, closestUnder}
 use Rattle.forms.proofs.Forms.{form-same}
-use Rattle.promises.proofs.Known.{stringOf, string-formed}
+use Rattle.meaning.specs.Forms.{asked}
+use Rattle.forms.proofs.Forms.{stringOf}
+use Rattle.promises.proofs.Known.{stringBy, string-formed}
 
 -- a string that differs from the form's in the size of a digit
-not-it : (f : ℕ) → 1 ≤ f → f ≤ 4 → (ds : List ℤ) (place : ℕ) → natAbs (getD ds place (pos 0)) ≢ natAbs (getD (stringOf f 2 13 8) place (pos 0)) → Form f 2 13 8 ds → ⊥
-not-it f l m ds place n F = n (ap (λ x. natAbs (getD x place (pos 0))) (form-same 2 13 8 (lit≤ tt) f ds (stringOf f 2 13 8) F (string-formed f 2 13 8 (lit≤ tt) (lit< tt) l m)))
+not-it : (f : ℕ) → 1 ≤ f → f ≤ 4 → (ds : List ℤ) (place : ℕ) → natAbs (getD ds place (pos 0)) ≢ natAbs (getD (stringBy f 2 13 8) place (pos 0)) → Form f 2 13 8 ds → ⊥
+not-it f l m ds place n F = n (ap (λ x. natAbs (getD x place (pos 0))) (form-same 2 13 8 (lit≤ tt) f ds (stringBy f 2 13 8) F (string-formed f 2 13 8 (lit≤ tt) (lit< tt) l m)))
 
 -- 1 0 -1 0 1 is wNAF's and the closest form's, and not MOF's
 pub mof-not-wnaf : Form 1 2 13 8 (pos 1 ∷ pos 0 ∷ negsuc 0 ∷ pos 0 ∷ pos 1 ∷ pos 0 ∷ pos 0 ∷ pos 0 ∷ pos 0 ∷ []) → ⊥
-unfolding stringOf mof listed
+unfolding asked stringOf mof listed
 mof-not-wnaf = not-it 1 (lit≤ tt) (lit≤ tt) _ 1 (λ e. omega arith)
 
 -- 1 0 0 -1 -1 is wMOF's: two nonzeros stand side by side
 pub wnaf-not-wmof : Form 2 2 13 8 (negsuc 0 ∷ negsuc 0 ∷ pos 0 ∷ pos 0 ∷ pos 1 ∷ pos 0 ∷ pos 0 ∷ pos 0 ∷ pos 0 ∷ []) → ⊥
-unfolding stringOf wnafFrom wnafDigit wnafNext
+unfolding asked stringOf wnafFrom wnafDigit wnafNext
 wnaf-not-wmof = not-it 2 (lit≤ tt) (lit≤ tt) _ 1 (λ e. omega arith)
 
 -- it is not the closest form's either: they differ by the tie at -3
 pub closest-not-wmof : Form 4 2 13 8 (negsuc 0 ∷ negsuc 0 ∷ pos 0 ∷ pos 0 ∷ pos 1 ∷ pos 0 ∷ pos 0 ∷ pos 0 ∷ pos 0 ∷ []) → ⊥
-unfolding stringOf closestOf closestUnder windowWorth shrink trailingZeros
+unfolding asked stringOf closestOf closestUnder windowWorth shrink trailingZeros
 closest-not-wmof = not-it 4 (lit≤ tt) (lit≤ tt) _ 1 (λ e. omega arith)
 
 -- stopping at the last full window loses the final -1
 pub wmof-not-cut : Form 3 2 13 8 (pos 0 ∷ negsuc 0 ∷ pos 0 ∷ pos 0 ∷ pos 1 ∷ pos 0 ∷ pos 0 ∷ pos 0 ∷ pos 0 ∷ []) → ⊥
-unfolding stringOf wmof wmofUnder windowWorth shrink trailingZeros
+unfolding asked stringOf wmof wmofUnder windowWorth shrink trailingZeros
 wmof-not-cut = not-it 3 (lit≤ tt) (lit≤ tt) _ 0 (λ e. omega arith)

@@ -1,9 +1,9 @@
 -- wNAF as the document words it, from recode's promise: the only string of D_w digits worth the scalar in which any w consecutive places hold at most one nonzero, of any
 -- length up to zeros on top; and at an odd remaining number the digit is its signed residue modulo 2 ^ w. Assumes nothing.
-use mathlib.Core.Path.{_≡_, sym, ap, subst, _∙_}
+use mathlib.Core.Path.{_≡_, sym, ap, _∙_}
 use mathlib.Core.Logic.{_≢_}
 use mathlib.Core.List.{List, [], _∷_}
-use Prim.Native.Nat.{ℕ, zero, suc, _*_, _%_}
+use Prim.Native.Nat.{ℕ, zero, suc, _%_}
 use native.Mathlib.Omega.{arith}
 use lib.Dec.{T}
 use lib.IntN.{ℤ, pos, natAbs, _+ℤ_, _*ℤ_, +ℤ-idl}
@@ -12,7 +12,7 @@ use Rattle.laws.proofs.Integers.{abs-mul}
 use Rattle.meaning.specs.Scalars.{number, bitCount}
 use Rattle.meaning.specs.Digits.{largest, allIn, worth, Apart}
 use Rattle.meaning.specs.Wnaf as Meaning
-use Rattle.meaning.specs.Forms.{Form}
+use Rattle.meaning.specs.Forms.{Has, asked}
 use Rattle.forms.proofs.DigitSets.{all-of}
 use Rattle.forms.proofs.Spacing.{SignedResidue, apart-residue}
 use Rattle.forms.proofs.Only.{apart-only}
@@ -35,15 +35,15 @@ module _ {w : ℕ} {s : List ℕ} {digits₀ : List ℤ} {marks₀ : List ℕ} (
   ds = string o K z bytes
 
   form : Meaning.Wnaf w (number s) (bitCount s) ds
-  unfolding Form
+  unfolding asked Has
   form = recoded-form o K z bytes
 
   -- any other such string has the same digit at every place
   pub wnaf-only : (es : List ℤ) → T (allIn (largest w) es) → worth es ≡ pos (number s) → Apart w es → (j : ℕ) → getD es j (pos 0) ≡ getD ds j (pos 0)
-  wnaf-only es t e a = apart-only (recoded-legal o K z bytes .lawful .0) es ds t (form .in-set) a (form .apart) (e ∙ sym (form .worth-is))
+  wnaf-only es t e a = apart-only (recoded-legal o K z bytes .wide .0) es ds t (form .in-set) a (form .apart) (e ∙ sym (form .worth-is))
 
   -- what remains at place j is what the places from j up are worth; where that is odd, the digit is its signed residue
   pub wnaf-residue : (j : ℕ) → natAbs (worth (drop j ds)) % 2 ≡ 1 → SignedResidue w (worth (drop j ds)) (getD ds j (pos 0))
   wnaf-residue j h =
-      let two = recoded-legal o K z bytes .lawful .0 in
+      let two = recoded-legal o K z bytes .wide .0 in
       apart-residue two (all-of w (omega (arith, two)) ds (form .in-set)) (form .apart) j (odd-some ds j h)

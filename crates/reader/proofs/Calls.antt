@@ -20,14 +20,14 @@ use Rattle.reader.specs.declared.State.{State}
 use Rattle.reader.specs.declared.Taken.{Taken}
 use Rattle.reader.specs.States.{starting, call, moved, after, After}
 use Rattle.reader.specs.Calls.{readOf, stateOf, readerOf, Made, Called}
-use Rattle.reader.proofs.Starts.{held-lawful, held-short}
+use Rattle.reader.proofs.Starts.{held-wide, held-short}
 use Rattle.reader.proofs.Takes.{takes-inside}
 use Rattle.reader.proofs.Stands.{given, given-done, size, reads-all}
 
 -- ---- document 01's sequence
 -- it has n + 1 digits
 pub sequence-length : (w : ℕ) (s : List ℕ) → Holds w s 0 → length (sequence 0 w s) ≡ bitCount s + 1
-sequence-length w s h = length-reverse (wmof w (number s) (bitCount s)) ∙ size w s (held-lawful w s h) (held-short w s h)
+sequence-length w s h = length-reverse (wmof w (number s) (bitCount s)) ∙ size w s (held-wide w s h) (held-short w s h)
 
 -- past its end there is nothing
 pub read-past : (ds : List ℤ) (k : ℕ) → length ds ≤ k → readAt ds k ≡ done
@@ -39,7 +39,7 @@ read-past (d ∷ ds) (suc k) h = read-past ds k (omega arith)
 -- ---- states
 reads-at : (r w : ℕ) (s : List ℕ) → Holds w s r → (k : ℕ) → given s (starting r w s) k ≡ readAt (sequence r w s) k
 unfolding readAt
-reads-at zero w s h k = reads-all w s (held-lawful w s h) (held-short w s h) k
+reads-at zero w s h k = reads-all w s (held-wide w s h) (held-short w s h) k
 reads-at (suc r) w s h k = given-done s (starting (suc r) w s) refl k
 
 -- a state m places lower

@@ -18,7 +18,7 @@ use Rattle.meaning.specs.Wmof.{windowAt, spot, wmof}
 use Rattle.meaning.specs.Reading.{Read, digit, done, readAt}
 use Rattle.forms.proofs.Places.{Agrees, agrees-all, agrees-same, agrees-open}
 use Rattle.forms.proofs.Wmof.{under-ok}
-use Rattle.width.specs.Widths.{Lawful}
+use Rattle.width.specs.Widths.{Wide}
 use Rattle.reader.specs.declared.State.{State}
 use Rattle.reader.specs.declared.Taken.{Taken}
 use Rattle.reader.specs.States.{starting, digitAt, passed, opened, taken, call, moved, after}
@@ -52,7 +52,7 @@ module _ (s : List ℕ) where
 digit-is : (j : ℕ) (d : ℤ) (p : ℕ) {x : ℤ} → (j ≡ p → x ≡ d) → (j ≢ p → x ≡ pos 0) → x ≡ digitAt j d p
 digit-is j d p {x} f g = either (λ y. x ≡ y) (eqb j p) (λ t. f (eqb→eq j p t)) (λ t. g (unequal j p t))
 
-module _ (w : ℕ) (s : List ℕ) (law : Lawful w) (short : length s ≤ mostBytes) where
+module _ (w : ℕ) (s : List ℕ) (law : Wide w) (short : length s ≤ mostBytes) where
   abbrev N : ℕ
   N = number s
 

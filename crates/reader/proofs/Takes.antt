@@ -11,7 +11,7 @@ use Rattle.meaning.specs.Scalars.{number, bit, below}
 use Rattle.meaning.specs.Digits.{leastWidth, mostWidth, mostPlaces}
 use Rattle.meaning.specs.Windows.{oddPart}
 use Rattle.meaning.specs.Wmof.{windowAt, spot}
-use Rattle.width.specs.Widths.{Lawful}
+use Rattle.width.specs.Widths.{Wide}
 use Rattle.reader.specs.declared.Taken.{Taken}
 use Rattle.reader.specs.States.{passed, opened, ended, fresh, taken}
 
@@ -30,7 +30,7 @@ module _ (w N i : ℕ) where
 
 module _ (s : List ℕ) (m w : ℕ) (d : ℤ) (p f : ℕ) where
   -- one can open
-  pub fresh-opened : 0 < m → m ≤ mostPlaces → Lawful w → opened w (number s) (m - 1) ≡ fresh s m w d p f
+  pub fresh-opened : 0 < m → m ≤ mostPlaces → Wide w → opened w (number s) (m - 1) ≡ fresh s m w d p f
   unfolding fresh
   fresh-opened a b l = simp (lt-ltb _ _ a, le-leb _ _ b, le-leb _ _ (l .0), le-leb _ _ (l .1))
 
@@ -62,7 +62,7 @@ module _ (s : List ℕ) (m w : ℕ) (d : ℤ) (p f : ℕ) where
   takes-fresh h = simp (le-ltb _ _ h)
 
   -- where one can open
-  pub takes-opened : m ≤ f → 0 < m → m ≤ mostPlaces → Lawful w → opened w (number s) (m - 1) ≡ taken s m w d p f
+  pub takes-opened : m ≤ f → 0 < m → m ≤ mostPlaces → Wide w → opened w (number s) (m - 1) ≡ taken s m w d p f
   takes-opened h a b l = fresh-opened a b l ∙ takes-fresh h
 
   -- no place to come

@@ -5,7 +5,7 @@ ghost use mathlib.Core.Path.{_≡_};
 ghost use Prim.Native.Nat.{_-_, _≤_, _<_, min};
 ghost use Rattle.meaning.specs.Scalars.{number};
 ghost use Rattle.meaning.specs.Digits.{mostPlaces};
-ghost use Rattle.width.specs.Widths.{Lawful};
+ghost use Rattle.width.specs.Widths.{Wide};
 ghost use Rattle.reader.specs.States.{digitAt, ready, passed, opened, fresh, taken, call, moved, After};
 ghost use Rattle.reader.specs.Calls.{Made, Called, Answered};
 use width::Known;
@@ -104,7 +104,7 @@ fn pass(place: usize, pending: i8, spot: usize, floor: usize) -> Taken
 
 // The same where no window is open: one opens over the places to come, or one place alone is passed.
 fn opening(w: Width, scalar: &[u8], place: usize) -> Taken
-    requires { ⌜ Lawful (w .bits) ⌝ }
+    requires { ⌜ Wide (w .bits) ⌝ }
     requires { ⌜ (0 < place) × (place ≤ mostPlaces) ⌝ }
     ensures { λ r. ⌜ r ≡ opened (w .bits) (number (now (scalar .entry))) (place - 1) ⌝ }
 {

@@ -2,12 +2,12 @@
 // before the next read, so that whoever sends a frame and waits gets its answer.
 use libc::STDIN_FILENO;
 use libc::STDOUT_FILENO;
-use recoder::marks;
+use recoder::MARK_WORDS;
 use width::Width;
 ghost use Prim.Native.Nat.{_≤_};
 ghost use lib.ListN.{length};
-ghost use Rattle.lines.specs.Answered.{Lent};
-ghost use Rattle.stream.specs.Streams.{mostKept};
+ghost use Rattle.frames.specs.Answered.{Lent};
+ghost use Rattle.stream.specs.Streams.{leastKept};
 ghost use Rattle.recode.specs.Pours.{Pours, Takes};
 
 // How much is kept of the line that has not ended, and whether to go on: not past the end of the input, and not past a write that failed.
@@ -26,7 +26,7 @@ fn pour(
     marks: &mut [u64],
     out: &mut [u8],
 ) -> Turn
-    requires { ⌜ (kept ≤ mostKept) × (mostKept ≤ length (now line)) ⌝ }
+    requires { ⌜ (kept ≤ length (now line)) × (leastKept ≤ length (now line)) ⌝ }
     requires { ⌜ Lent (now bytes) (now digits) (now marks) (now out) ⌝ }
     ensures { λ r. ⌜ Pours (now (piece .entry)) (now (line .entry)) kept r (now (line .exit)) ⌝ }
 {
@@ -53,7 +53,7 @@ fn take(
     marks: &mut [u64],
     out: &mut [u8],
 ) -> Turn
-    requires { ⌜ (kept ≤ mostKept) × (mostKept ≤ length (now line)) ⌝ }
+    requires { ⌜ (kept ≤ length (now line)) × (leastKept ≤ length (now line)) ⌝ }
     requires { ⌜ Lent (now bytes) (now digits) (now marks) (now out) ⌝ }
     ensures { λ r. ⌜ Takes (now (line .entry)) kept r (now (input .exit)) (now (line .exit)) ⌝ }
 {
@@ -79,7 +79,7 @@ fn run(
     marks: &mut [u64],
     out: &mut [u8],
 )
-    requires { ⌜ mostKept ≤ length (now line) ⌝ }
+    requires { ⌜ leastKept ≤ length (now line) ⌝ }
     requires { ⌜ Lent (now bytes) (now digits) (now marks) (now out) ⌝ }
 {
     let mut turns = u64::MAX;
@@ -95,10 +95,10 @@ fn run(
 
 fn main() {
     let mut input = io::large_buffer();
-    let mut line = [0u8; stream::MOST_KEPT];
-    let mut bytes = [0u8; lines::MOST_BYTES];
+    let mut line = [0u8; stream::LEAST_KEPT];
+    let mut bytes = [0u8; frames::MOST_BYTES];
     let mut digits = [0i8; Width::MOST_PLACES];
-    let mut marks = [0u64; marks::WORDS];
+    let mut marks = [0u64; MARK_WORDS];
     let mut out = io::large_buffer();
     run(
         &mut input,

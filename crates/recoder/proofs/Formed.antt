@@ -9,7 +9,7 @@ use lib.IntN.{ℤ}
 use Rattle.meaning.specs.Mof.{mof}
 use Rattle.meaning.specs.Wmof.{wmof}
 use Rattle.meaning.specs.Closest.{larger}
-use Rattle.meaning.specs.Forms.{Form}
+use Rattle.meaning.specs.Forms.{asked, Has, Form}
 use Rattle.forms.specs.Wnaf.{wnafFrom}
 use Rattle.forms.specs.Closest.{closestOf}
 use Rattle.forms.proofs.Wnaf.{wnaf-is}
@@ -18,20 +18,20 @@ use Rattle.recoder.specs.Sweeps.{Turned}
 
 module _ (f w N n : ℕ) (ds : List ℤ) where
   pub is-mof : f ≡ 1 → ds ≡ mof N n → Form f w N n ds
-  unfolding Form
+  unfolding asked Has
   is-mof e d = rw e d
 
   pub is-wmof : f ≡ 3 → ds ≡ wmof w N n → Form f w N n ds
-  unfolding Form
+  unfolding asked Has
   is-wmof e d = rw e d
 
   module _ (two : 2 ≤ w) (small : N < 2 ^ n) where
     pub is-wnaf : f ≡ 2 → ds ≡ wnafFrom w (n + 1) N → Form f w N n ds
-    unfolding Form
+    unfolding asked Has
     is-wnaf e d = rw (e, d) (wnaf-is w N n two small)
 
     pub is-closest : f ≡ 4 → ds ≡ closestOf larger w N n → Form f w N n ds
-    unfolding Form
+    unfolding asked Has
     is-closest e d = rw (e, d) (closest-is larger w N n two small)
 
     -- by the leading bit at which a tie turns

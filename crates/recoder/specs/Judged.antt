@@ -8,7 +8,7 @@ use Rattle.meaning.specs.Scalars.{bitCount, mostBytes}
 use Rattle.meaning.specs.Refusals.{First}
 use Rattle.meaning.specs.Recoding.{markWords, recodeRules}
 use Rattle.width.specs.declared.Width.{Width}
-use Rattle.width.specs.Widths.{Lawful}
+use Rattle.width.specs.Widths.{Wide}
 use Rattle.recoder.specs.declared.Judged.{Judged}
 use Rattle.recoder.specs.declared.Judged.the-variants.{Goes, Refused}
 
@@ -16,7 +16,7 @@ use Rattle.recoder.specs.declared.Judged.the-variants.{Goes, Refused}
 pub record Allowed (form w : ℕ) : Type 0 where
   pub least : 1 ≤ form
   pub most : form ≤ 4
-  pub lawful : Lawful w
+  pub wide : Wide w
   pub narrow : form ≡ 1 → w ≡ 2
 
 -- no rule applies, and x is the width

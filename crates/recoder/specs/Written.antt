@@ -7,7 +7,7 @@ use Rattle.meaning.specs.Scalars.{number, bitCount}
 use Rattle.meaning.specs.Digits.{weight, top}
 use Rattle.meaning.specs.Forms.{Form}
 use Rattle.meaning.specs.Recoding.{marksOf}
-use Rattle.recoder.specs.declared.Tally.{Tally}
+use Rattle.digits.specs.declared.Tally.{Tally}
 
 pub record Written (form w : ℕ) (s : List ℕ) (ds : List ℤ) (marks : List ℕ) (r : Tally) : Type 0 where
   pub formed : Form form w (number s) (bitCount s) ds

@@ -7,7 +7,7 @@ ghost use lib.ListN.{length};
 ghost use Rattle.meaning.specs.Scalars.{number, bitCount, mostBytes};
 ghost use Rattle.meaning.specs.Digits.{mostPlaces};
 ghost use Rattle.meaning.specs.Recoding.{markWords, marksOf};
-ghost use Rattle.width.specs.Widths.{Lawful};
+ghost use Rattle.width.specs.Widths.{Wide};
 ghost use Rattle.windows.specs.Openings.{Placed};
 ghost use Rattle.recoder.specs.Sweeps.{Clear, Swept, Turns, Settled, Turned};
 use crate::opened;
@@ -19,7 +19,7 @@ use windows::opening::Place;
 
 // The lowest place from `floor` up whose window lies in one stretch with the window of the highest place that is left.
 fn lowest_place(w: Width, left: usize, floor: usize) -> usize
-    requires { ⌜ Lawful (w .bits) ⌝ }
+    requires { ⌜ Wide (w .bits) ⌝ }
     requires { ⌜ (floor < left) × (left ≤ mostPlaces) ⌝ }
     ensures { λ r. ⌜ (floor ≤ r) × (r < left) × (left + w .bits ≤ r + 56) ⌝ }
 {
@@ -33,7 +33,7 @@ fn lowest_place(w: Width, left: usize, floor: usize) -> usize
 
 // The window that opens at place `at` of stretch x.
 fn window(w: Width, x: u64, at: u32) -> u32
-    requires { ⌜ Lawful (w .bits) ⌝ }
+    requires { ⌜ Wide (w .bits) ⌝ }
     requires { ⌜ at < 64 ⌝ }
     ensures { λ r. ⌜ r ≡ x / 2 ^ at % 2 ^ (w .bits + 1) ⌝ }
 {
@@ -69,7 +69,7 @@ fn advance(
     digits: &mut [i8],
     marks: &mut [u64],
 ) -> usize
-    requires { ⌜ Lawful (w .bits) ⌝ }
+    requires { ⌜ Wide (w .bits) ⌝ }
     requires { ⌜ (floor < from) × (from ≤ length (now digits)) × (length (now digits) ≤ mostPlaces) ⌝ }
     requires { ⌜ now marks ≡ marksOf (now digits) ⌝ }
     requires { ⌜ Clear from (now digits) ⌝ }
@@ -103,7 +103,7 @@ fn sweep(
     digits: &mut [i8],
     marks: &mut [u64],
 ) -> usize
-    requires { ⌜ Lawful (w .bits) ⌝ }
+    requires { ⌜ Wide (w .bits) ⌝ }
     requires { ⌜ (from ≤ length (now digits)) × (length (now digits) ≤ mostPlaces) ⌝ }
     requires { ⌜ now marks ≡ marksOf (now digits) ⌝ }
     requires { ⌜ Clear from (now digits) ⌝ }
@@ -120,7 +120,7 @@ fn sweep(
 
 // Whether window `bits` opens and leads with the bit `turn`.
 fn turns(w: Width, bits: u32, turn: u32) -> bool
-    requires { ⌜ Lawful (w .bits) ⌝ }
+    requires { ⌜ Wide (w .bits) ⌝ }
     ensures { λ r. ⌜ Turns (w .bits) bits turn r ⌝ }
 {
     windows::opening::opens(w, bits) && bits >> w.bits() == turn
@@ -137,7 +137,7 @@ fn settle(
     digits: &mut [i8],
     marks: &mut [u64],
 ) -> usize
-    requires { ⌜ Lawful (w .bits) ⌝ }
+    requires { ⌜ Wide (w .bits) ⌝ }
     requires { ⌜ length (now s) ≤ mostBytes ⌝ }
     requires { ⌜ low ≡ trailingZeros (bitCount (now s)) (number (now s)) ⌝ }
     requires { ⌜ (left ≤ w .bits + low + 1) × (left ≤ length (now digits)) × (length (now digits) ≡ bitCount (now s) + 1) ⌝ }
@@ -170,7 +170,7 @@ fn over(turn: u32, tie: usize) -> usize
 
 // Writes the string of `s` into exactly as many places as it has, and marks them. A tie turns at the leading bit `turn`.
 pub fn write(w: Width, turn: u32, s: &[u8], digits: &mut [i8], marks: &mut [u64])
-    requires { ⌜ Lawful (w .bits) ⌝ }
+    requires { ⌜ Wide (w .bits) ⌝ }
     requires { ⌜ length (now s) ≤ mostBytes ⌝ }
     requires { ⌜ length (now digits) ≡ bitCount (now s) + 1 ⌝ }
     requires { ⌜ length (now marks) ≡ markWords ⌝ }

@@ -1,42 +1,32 @@
--- A word judged by its step, and words judged one after the other.
+-- A word judged by its step.
 -- Assumes nothing.
-use mathlib.Core.Path.{_≡_, sym, _∙_, subst}
-use mathlib.Core.Logic.{_≢_, _⊎_, ⊎-elim}
+use mathlib.Core.Path.{_≡_, sym, ap, _∙_, subst}
+use mathlib.Core.Logic.{_≢_, ⊎-elim}
 use mathlib.Core.Bool.{Bool, false, not}
-use Prim.Native.Nat.{ℕ, _-_, _≤_}
+use Prim.Native.Nat.{ℕ, _<_}
 use native.Mathlib.Omega.{arith}
 use borrow.Author.Tests.{ltb-true, ltb-false, eqb-true, eqb-false, not-true, not-false}
 use lib.Dec.{ltb, eqb}
-use lib.Pow.{pow-pos}
-use Rattle.meaning.specs.Taping.{codeOf, entryOf}
-use Rattle.meaning.specs.Running.{entries}
-use Rattle.tape.specs.declared.Sign.{Sign}
-use Rattle.tape.specs.declared.Sign.the-variants.{Plus, Minus}
-use Rattle.tape.specs.declared.Move.{Move}
+use Rattle.meaning.specs.Words as Words
+use Rattle.meaning.specs.Words.{codeOf, entryOf, double, load, add, bad, stepOf}
 use Rattle.tape.specs.declared.Step.{Step}
-use Rattle.tape.specs.declared.Step.the-variants.{Double, Load, Add, Bad}
-use Rattle.tape.specs.Steps.{stepOf, minus}
-use Rattle.tape.proofs.Steps.{Says, step-says}
+use Rattle.tape.specs.Steps.{told}
+use Rattle.walk.proofs.Words.{Says, step-says, signed-le}
 use Rattle.run.specs.Words.{Judged}
 
--- a minus has the next code
-pub minus-le : (s : Sign) → minus s ≤ 1
-minus-le Plus = omega arith
-minus-le Minus = omega arith
-
 -- what the step of a word says of it
-pub says : (x : ℕ) {s : Step} → s ≡ stepOf x → {t : Step} → s ≡ t → Says t (codeOf x) (entryOf x)
-says x is {t} e = subst (λ t. Says t (codeOf x) (entryOf x)) (sym is ∙ e) (step-says x)
+pub says : (x : ℕ) {s : Step} → told s ≡ stepOf x → {t : Step} → s ≡ t → Says (told t) (codeOf x) (entryOf x)
+says x is {t} e = subst (λ u. Says u (codeOf x) (entryOf x)) (sym is ∙ ap told e) (step-says x)
 
-module _ (w i x : ℕ) where
+module _ (count i x : ℕ) where
   -- a double is good anywhere but first
-  pub judged-double : Says Double (codeOf x) (entryOf x) → Judged w i x (not (eqb i 0))
-  judged-double (c, e) =
+  pub judged-double : 0 < count → Says double (codeOf x) (entryOf x) → Judged count i x (not (eqb i 0))
+  judged-double some (c, e) =
       record {
         yes = λ t. let n = eqb-false i 0 (not-true (eqb i 0) t) in
             record {
               code = omega arith;
-              entry = omega (arith, pow-pos (w - 2));
+              entry = omega (arith, some);
               double = λ z. e;
               first = λ z. absurd (n z);
               later = λ m l. omega arith;
@@ -44,47 +34,51 @@ module _ (w i x : ℕ) where
         no = λ f g. let l = g .first (eqb-true i 0 (not-false (eqb i 0) f)) in omega arith;
       }
 
-  -- a load is good first alone, if the width has its entry
-  pub judged-load : (m : Move) {r : Bool} → Says (Load m) (codeOf x) (entryOf x) → i ≡ 0 → r ≡ ltb (m .entry) (entries w) → Judged w i x r
-  judged-load m {r} (c, e) z p =
+  -- a load is good first alone, if its entry is there
+  pub judged-load : (s : Words.Sign) (n : ℕ) {r : Bool} → Says (load s n) (codeOf x) (entryOf x) → i ≡ 0 → r ≡ ltb n count → Judged count i x r
+  judged-load s n {r} (c, e) z p =
+      let (a, b) = signed-le s 1 in
       record {
         yes = λ t. record {
-          code = omega (arith, minus-le (m .sign));
-          entry = omega (arith, ltb-true (m .entry) (entries w) (sym p ∙ t));
+          code = omega arith;
+          entry = omega (arith, ltb-true n count (sym p ∙ t));
           double = λ o. absurd (omega arith);
-          first = λ o. omega (arith, minus-le (m .sign));
-          later = λ n l. n z;
+          first = λ o. (omega arith, omega arith);
+          later = λ o l. o z;
         };
-        no = λ f g. omega (arith, ltb-false (m .entry) (entries w) (sym p ∙ f), g .entry);
+        no = λ f g. omega (arith, ltb-false n count (sym p ∙ f), g .entry);
       }
 
-  pub judged-late : (m : Move) → Says (Load m) (codeOf x) (entryOf x) → i ≢ 0 → Judged w i x (eqb i 0)
-  judged-late m (c, e) n =
-      record { yes = λ t. absurd (n (eqb-true i 0 t)); no = λ f g. g .later n (omega (arith, minus-le (m .sign))) }
+  pub judged-late : (s : Words.Sign) (n : ℕ) → Says (load s n) (codeOf x) (entryOf x) → i ≢ 0 → Judged count i x (eqb i 0)
+  judged-late s n (c, e) l =
+      let (a, b) = signed-le s 1 in
+      record { yes = λ t. absurd (l (eqb-true i 0 t)); no = λ f g. g .later l (omega arith, omega arith) }
 
-  -- an addition is good anywhere but first, if the width has its entry
-  pub judged-add : (m : Move) {r : Bool} → Says (Add m) (codeOf x) (entryOf x) → i ≢ 0 → r ≡ ltb (m .entry) (entries w) → Judged w i x r
-  judged-add m {r} (c, e) n p =
+  -- an addition is good anywhere but first, if its entry is there
+  pub judged-add : (s : Words.Sign) (n : ℕ) {r : Bool} → Says (add s n) (codeOf x) (entryOf x) → i ≢ 0 → r ≡ ltb n count → Judged count i x r
+  judged-add s n {r} (c, e) l p =
+      let (a, b) = signed-le s 3 in
       record {
         yes = λ t. record {
-          code = omega (arith, minus-le (m .sign));
-          entry = omega (arith, ltb-true (m .entry) (entries w) (sym p ∙ t));
+          code = omega arith;
+          entry = omega (arith, ltb-true n count (sym p ∙ t));
           double = λ o. absurd (omega arith);
-          first = λ o. absurd (n o);
-          later = λ o l. omega (arith, minus-le (m .sign));
+          first = λ o. absurd (l o);
+          later = λ o h. omega arith;
         };
-        no = λ f g. omega (arith, ltb-false (m .entry) (entries w) (sym p ∙ f), g .entry);
+        no = λ f g. omega (arith, ltb-false n count (sym p ∙ f), g .entry);
       }
 
-  pub judged-early : (m : Move) → Says (Add m) (codeOf x) (entryOf x) → i ≡ 0 → Judged w i x (not (eqb i 0))
-  judged-early m (c, e) z =
+  pub judged-early : (s : Words.Sign) (n : ℕ) → Says (add s n) (codeOf x) (entryOf x) → i ≡ 0 → Judged count i x (not (eqb i 0))
+  judged-early s n (c, e) z =
+      let (a, b) = signed-le s 3 in
       record {
         yes = λ t. absurd (eqb-false i 0 (not-true (eqb i 0) t) z);
-        no = λ f g. let l = g .first z in omega (arith, minus-le (m .sign));
+        no = λ f g. let l = g .first z in omega arith;
       }
 
   -- a bad step's word is bad
-  pub judged-bad : Says Bad (codeOf x) (entryOf x) → Judged w i x false
+  pub judged-bad : Says bad (codeOf x) (entryOf x) → Judged count i x false
   judged-bad s =
       record {
         yes = λ t. absurd (let z : _≡_ {A = ℕ} 0 1 = cc in omega arith);

@@ -4,12 +4,14 @@ ghost use mathlib.Core.List.{_++_};
 ghost use Prim.Native.Nat.{ℕ, _+_, _%_, _≤_, _<_};
 ghost use lib.Dec.{ltb};
 ghost use lib.ListN.{length, getD, drop};
-ghost use Rattle.meaning.specs.Taping.{mostWords};
-ghost use Rattle.meaning.specs.Running.{entries, multiplesOf};
-ghost use Rattle.width.specs.Widths.{Lawful};
+ghost use Rattle.meaning.specs.Words.{mostWords};
+ghost use Rattle.meaning.specs.Running.{multiplesOf};
+ghost use Rattle.walk.specs.Steps.{Stepped, Reached};
+ghost use Rattle.walk.specs.Residues.{residues};
+ghost use Rattle.tape.specs.Steps.{side};
 ghost use Rattle.run.specs.Outcomes.{refusal, Promise};
 ghost use Rattle.run.specs.Words.{Judged, Sifted};
-ghost use Rattle.run.specs.Walks.{residues, signed, entryIn, Held, Steady, Stepped, Reached};
+ghost use Rattle.run.specs.Walks.{entryIn, tableOf, Held, Steady};
 use tape::Move;
 use tape::Sign;
 use tape::Step;
@@ -17,35 +19,34 @@ use width::Known;
 use width::Width;
 
 // ---- judging
-// Whether the width has the entry of a move.
-fn held(width: Width, step: Move) -> bool
-    requires { ⌜ Lawful (width .bits) ⌝ }
-    ensures { λ r. ⌜ r ≡ ltb (step .entry) (entries (width .bits)) ⌝ }
+// Whether there is the entry of a move: a run says how many it has.
+fn held(count: usize, step: Move) -> bool
+    ensures { λ r. ⌜ r ≡ ltb (step .entry) count ⌝ }
 {
-    (step.entry as usize) < width.entries()
+    (step.entry as usize) < count
 }
 
 // Whether a word is good at its index: the first is a load, and no other is.
-fn good(width: Width, index: usize, word: u16) -> bool
-    requires { ⌜ Lawful (width .bits) ⌝ }
-    ensures { λ r. ⌜ Judged (width .bits) index word r ⌝ }
+fn good(count: usize, index: usize, word: u16) -> bool
+    requires { ⌜ 0 < count ⌝ }
+    ensures { λ r. ⌜ Judged count index word r ⌝ }
 {
     match tape::decode(word) {
         Step::Double => index != 0,
-        Step::Load(m) => index == 0 && held(width, m),
-        Step::Add(m) => index != 0 && held(width, m),
+        Step::Load(m) => index == 0 && held(count, m),
+        Step::Add(m) => index != 0 && held(count, m),
         Step::Bad => false,
     }
 }
 
 // The index of the first bad word, or the count of words.
-fn first_bad(width: Width, words: &[u16]) -> usize
-    requires { ⌜ Lawful (width .bits) ⌝ }
-    ensures { λ r. ⌜ Sifted (width .bits) (now (words .entry)) r ⌝ }
+fn first_bad(count: usize, words: &[u16]) -> usize
+    requires { ⌜ 0 < count ⌝ }
+    ensures { λ r. ⌜ Sifted count (now (words .entry)) r ⌝ }
 {
     let mut i = 0;
     while i < words.len() {
-        if !good(width, i, words[i]) {
+        if !good(count, i, words[i]) {
             return i;
         }
         i += 1;
@@ -63,14 +64,12 @@ fn plus(x: u32, y: u32, modulus: u32) -> u32
     if x < room { x + y } else { x - room }
 }
 
-// Stores the odd multiples of the base.
-fn store(width: Width, modulus: u32, base: u32, multiples: &mut [u32])
-    requires { ⌜ Lawful (width .bits) ⌝ }
+// Stores so many odd multiples of the base.
+fn store(count: usize, modulus: u32, base: u32, multiples: &mut [u32])
     requires { ⌜ 0 < modulus ⌝ }
-    requires { ⌜ entries (width .bits) ≤ length (now multiples) ⌝ }
-    ensures { λ _. ⌜ now (multiples .exit) ≡ multiplesOf (width .bits) modulus base ++ drop (entries (width .bits)) (now (multiples .entry)) ⌝ }
+    requires { ⌜ count ≤ length (now multiples) ⌝ }
+    ensures { λ _. ⌜ now (multiples .exit) ≡ multiplesOf count modulus base ++ drop count (now (multiples .entry)) ⌝ }
 {
-    let count = width.entries();
     let mut multiple = base % modulus;
     let twice = plus(multiple, multiple, modulus);
     let mut e = 0;
@@ -92,7 +91,7 @@ struct State {
 // A residue plus or minus the multiple of a move.
 fn moved(x: u32, step: Move, modulus: u32, multiples: &[u32]) -> u32
     requires { ⌜ (x < modulus) × (step .entry < length (now multiples)) × (entryIn (now multiples) (step .entry) < modulus) ⌝ }
-    ensures { λ r. ⌜ r ≡ signed (residues modulus) x (step .sign) (entryIn (now (multiples .entry)) (step .entry)) ⌝ }
+    ensures { λ r. ⌜ r ≡ (x + tableOf modulus (now (multiples .entry)) (side (step .sign)) (step .entry)) % modulus ⌝ }
 {
     let entry = step.entry as usize;
     let multiple = multiples[entry];
@@ -107,7 +106,7 @@ fn moved(x: u32, step: Move, modulus: u32, multiples: &[u32]) -> u32
 fn step(state: State, word: u16, modulus: u32, multiples: &[u32]) -> State
     requires { ⌜ Steady modulus state ⌝ }
     requires { ⌜ Held modulus (now multiples) word ⌝ }
-    ensures { λ r. ⌜ Stepped modulus (now (multiples .entry)) state word r ⌝ }
+    ensures { λ r. ⌜ Stepped (residues modulus) (tableOf modulus (now (multiples .entry))) word (state .value) (state .doublings) (state .additions) (r .value) (r .doublings) (r .additions) ⌝ }
 {
     match tape::decode(word) {
         Step::Double => State {
@@ -133,7 +132,7 @@ fn step(state: State, word: u16, modulus: u32, multiples: &[u32]) -> State
 fn reach(words: &[u16], modulus: u32, multiples: &[u32]) -> State
     requires { ⌜ (0 < modulus) × (length (now words) ≤ mostWords) ⌝ }
     requires { ⌜ ((i : ℕ) → i < length (now words) → Held modulus (now multiples) (getD (now words) i 0)) ⌝ }
-    ensures { λ r. ⌜ Reached modulus (now (multiples .entry)) (now (words .entry)) r ⌝ }
+    ensures { λ r. ⌜ Reached (residues modulus) (tableOf modulus (now (multiples .entry))) (now (words .entry)) (r .value) (r .doublings) (r .additions) ⌝ }
 {
     let mut state = State {
         value: 0,
@@ -196,11 +195,11 @@ pub fn run(width: u8, tape: &[u16], modulus: u32, base: u32, multiples: &mut [u3
     if multiples.len() < count {
         return refused(14, 0);
     }
-    let bad = first_bad(known, tape);
+    let bad = first_bad(count, tape);
     if bad < tape.len() {
         return refused(15, bad as u16);
     }
-    store(known, modulus, base, multiples);
+    store(count, modulus, base, multiples);
     let state = reach(tape, modulus, multiples);
     let cost = (count - 1) as u16;
     Ran {

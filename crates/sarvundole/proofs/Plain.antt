@@ -18,11 +18,14 @@ use Rattle.sarvundole.specs.Reads.{given, digitOf, Tells, Reads}
 use Rattle.sarvundole.specs.Steps.{Steps}
 
 -- a run whose outcome is o
-pub ran : {w : ℕ} {ws : List ℕ} {m g : ℕ} {multiples₀ : List ℕ} {r : Ran} {multiples : List ℕ} {o : Outcome}
+pub told : {w : ℕ} {ws : List ℕ} {m g : ℕ} {multiples₀ : List ℕ} {r : Ran} {multiples : List ℕ} {o : Outcome}
     → r .outcome ≡ o → Promise w ws m g multiples₀ r multiples
-    → Run w ws m g multiples₀ (refusalOf o) (placeOf o) (residueOf o) (r .doublings) (r .additions) (r .cost) multiples
-ran {w} {ws} {m} {g} {multiples₀} {r} {multiples} q p =
-    subst (λ o. Run w ws m g multiples₀ (refusalOf o) (placeOf o) (residueOf o) (r .doublings) (r .additions) (r .cost) multiples) q (p .run)
+    → Run w ws m g multiples₀ (record { refusal = refusalOf o; place = placeOf o; residue = residueOf o; doublings = r .doublings; additions = r .additions; cost = r .cost }) multiples
+told {w} {ws} {m} {g} {multiples₀} {r} {multiples} q p =
+    subst
+    (λ o. Run w ws m g multiples₀ (record { refusal = refusalOf o; place = placeOf o; residue = residueOf o; doublings = r .doublings; additions = r .additions; cost = r .cost }) multiples)
+    q
+    (p .run)
 
 -- a reading whose call is told by g and d
 pub read : {w : ℕ} {s : List ℕ} {k : ℕ} {r : Reading} {g : ℕ} {d : ℤ} → Answered w s k r → Tells (r .next) g d → Reads w s k (r .refusal) g d

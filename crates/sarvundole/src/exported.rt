@@ -5,31 +5,20 @@ ghost use Rattle.meaning.specs.Checking.{checkRules, nonadjacentRules, Check};
 ghost use Rattle.meaning.specs.Taping.{Tape};
 ghost use Rattle.meaning.specs.Running.{Run};
 ghost use Rattle.meaning.specs.Searching.{Search};
+ghost use Rattle.digits.specs.Tallies.{told};
+ghost use Rattle.tape.specs.Answers.{taped};
+ghost use Rattle.search.specs.Answers.{searched};
 ghost use Rattle.reader.specs.States.{After};
+ghost use Rattle.sarvundole.specs.Runs.{ran};
 ghost use Rattle.sarvundole.specs.Reads.{Tells, Reads};
 ghost use Rattle.sarvundole.specs.Kept.{stateOf, Small};
 ghost use Rattle.sarvundole.specs.Steps.{Steps};
+use digits::Tally;
 use reader::Next;
 use reader::State;
 use run::Outcome;
-
-// What recode and the checks answer.
-#[repr(C)]
-pub struct Tally {
-    pub refusal: u8,
-    pub place: u16,
-    pub weight: u16,
-    pub top: u16,
-}
-
-#[repr(C)]
-pub struct Taped {
-    pub refusal: u8,
-    pub place: u16,
-    pub words: u16,
-    pub doublings: u16,
-    pub additions: u16,
-}
+use search::Searched;
+use tape::Taped;
 
 // The run's outcome in plain fields: the refusal and its place, or the residue.
 #[repr(C)]
@@ -69,12 +58,6 @@ pub struct Stepped {
     pub digit: i8,
 }
 
-#[repr(C)]
-pub struct Searched {
-    pub refusal: u8,
-    pub weight: u8,
-}
-
 #[no_mangle]
 pub extern "C" fn sarvundole_recode(
     form: u8,
@@ -83,55 +66,30 @@ pub extern "C" fn sarvundole_recode(
     digits: &mut [i8],
     marks: &mut [u64],
 ) -> Tally
-    ensures { λ r. ⌜ Recode form width (now (scalar .entry)) (now (digits .entry)) (now (marks .entry)) (r .refusal) (r .place) (r .weight) (r .top) (now (digits .exit)) (now (marks .exit)) ⌝ }
+    ensures { λ r. ⌜ Recode form width (now (scalar .entry)) (now (digits .entry)) (now (marks .entry)) (told r) (now (digits .exit)) (now (marks .exit)) ⌝ }
 {
-    let made = recoder::recode(form, width, scalar, digits, marks);
-    Tally {
-        refusal: made.refusal,
-        place: made.place,
-        weight: made.weight,
-        top: made.top,
-    }
+    recoder::recode(form, width, scalar, digits, marks)
 }
 
 #[no_mangle]
 pub extern "C" fn sarvundole_check(width: u8, scalar: &[u8], digits: &[i8]) -> Tally
-    ensures { λ r. ⌜ Check (checkRules width (now (scalar .entry)) (now (digits .entry))) (now (digits .entry)) (r .refusal) (r .place) (r .weight) (r .top) ⌝ }
+    ensures { λ r. ⌜ Check (checkRules width (now (scalar .entry)) (now (digits .entry))) (now (digits .entry)) (told r) ⌝ }
 {
-    let made = judge::check(width, scalar, digits);
-    Tally {
-        refusal: made.refusal,
-        place: made.place,
-        weight: made.weight,
-        top: made.top,
-    }
+    judge::check(width, scalar, digits)
 }
 
 #[no_mangle]
 pub extern "C" fn sarvundole_check_nonadjacent(width: u8, scalar: &[u8], digits: &[i8]) -> Tally
-    ensures { λ r. ⌜ Check (nonadjacentRules width (now (scalar .entry)) (now (digits .entry))) (now (digits .entry)) (r .refusal) (r .place) (r .weight) (r .top) ⌝ }
+    ensures { λ r. ⌜ Check (nonadjacentRules width (now (scalar .entry)) (now (digits .entry))) (now (digits .entry)) (told r) ⌝ }
 {
-    let made = judge::check_nonadjacent(width, scalar, digits);
-    Tally {
-        refusal: made.refusal,
-        place: made.place,
-        weight: made.weight,
-        top: made.top,
-    }
+    judge::check_nonadjacent(width, scalar, digits)
 }
 
 #[no_mangle]
 pub extern "C" fn sarvundole_tape(width: u8, digits: &[i8], words: &mut [u16]) -> Taped
-    ensures { λ r. ⌜ Tape width (now (digits .entry)) (now (words .entry)) (r .refusal) (r .place) (r .words) (r .doublings) (r .additions) (now (words .exit)) ⌝ }
+    ensures { λ r. ⌜ Tape width (now (digits .entry)) (now (words .entry)) (taped r) (now (words .exit)) ⌝ }
 {
-    let made = tape::tape(width, digits, words);
-    Taped {
-        refusal: made.refusal,
-        place: made.place,
-        words: made.words,
-        doublings: made.doublings,
-        additions: made.additions,
-    }
+    tape::tape(width, digits, words)
 }
 
 #[no_mangle]
@@ -142,7 +100,7 @@ pub extern "C" fn sarvundole_run(
     base: u32,
     multiples: &mut [u32],
 ) -> Ran
-    ensures { λ r. ⌜ Run width (now (tape .entry)) modulus base (now (multiples .entry)) (r .refusal) (r .place) (r .residue) (r .doublings) (r .additions) (r .cost) (now (multiples .exit)) ⌝ }
+    ensures { λ r. ⌜ Run width (now (tape .entry)) modulus base (now (multiples .entry)) (ran r) (now (multiples .exit)) ⌝ }
 {
     let made = run::run(width, tape, modulus, base, multiples);
     let outcome = made.outcome;
@@ -172,7 +130,7 @@ struct Given {
     digit: i8,
 }
 
-fn told(next: Next) -> Given
+fn plain(next: Next) -> Given
     ensures { λ r. ⌜ Tells next (r .given) (r .digit) ⌝ }
 {
     match next {
@@ -187,7 +145,7 @@ pub extern "C" fn sarvundole_read_at(width: u8, scalar: &[u8], calls: u16) -> Re
 {
     let made = reader::read_at(width, scalar, calls);
     let next = made.next;
-    let told = told(next);
+    let told = plain(next);
     Reading {
         refusal: made.refusal,
         given: told.given,
@@ -246,7 +204,7 @@ pub extern "C" fn sarvundole_reader_next(scalar: &[u8], reader: Reader) -> Stepp
     );
     let after = kept(reader::moved(before, taken));
     let next = taken.next;
-    let told = told(next);
+    let told = plain(next);
     Stepped {
         reader: after,
         given: told.given,
@@ -256,11 +214,7 @@ pub extern "C" fn sarvundole_reader_next(scalar: &[u8], reader: Reader) -> Stepp
 
 #[no_mangle]
 pub extern "C" fn sarvundole_search(number: u32, width: u8) -> Searched
-    ensures { λ r. ⌜ Search number width (r .refusal) (r .weight) ⌝ }
+    ensures { λ r. ⌜ Search number width (searched r) ⌝ }
 {
-    let found = search::search(number, width);
-    Searched {
-        refusal: found.refusal,
-        weight: found.weight,
-    }
+    search::search(number, width)
 }

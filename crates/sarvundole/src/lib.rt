@@ -1,7 +1,7 @@
 // The library that a user names: every call and every type of this house under one name, and the calls for C in `exported`.
 pub mod exported;
 
-pub use judge::Verdict;
+pub use digits::Tally;
 pub use judge::check;
 pub use judge::check_nonadjacent;
 pub use reader::Next;
@@ -15,7 +15,6 @@ pub use reader::read_at;
 pub use reader::start;
 pub use recoder::CLOSEST;
 pub use recoder::MOF;
-pub use recoder::Tally;
 pub use recoder::WMOF;
 pub use recoder::WNAF;
 pub use recoder::recode;
@@ -31,6 +30,7 @@ pub use tape::Sign;
 pub use tape::Step;
 pub use tape::Taped;
 pub use tape::decode;
+pub use tape::encode;
 pub use tape::tape;
 pub use width::Known;
 pub use width::Width;

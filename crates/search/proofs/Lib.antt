@@ -5,4 +5,4 @@ pub mod Order
 pub mod Lightest
 pub mod Tried
 pub mod Agreement
-pub mod Answers
+pub mod Refusals

@@ -13,7 +13,7 @@ use Rattle.laws.proofs.Integers.{up, dn, parts, diffs, ring, minus, abs-is, abs
 use Rattle.laws.proofs.Choices.{yes-is, no-is, and-both, and-of, or-either, or-right, equal, not-equal}
 use Rattle.meaning.specs.Digits.{inSet, largest, nonzero}
 use Rattle.forms.proofs.Strings.{nonzero-one}
-use Rattle.width.specs.Widths.{Lawful}
+use Rattle.width.specs.Widths.{Wide}
 use Rattle.laws.proofs.Shifts.{doubled}
 use Rattle.search.specs.Least.{digitAt, leftOver}
 
@@ -95,7 +95,7 @@ number-at (suc (suc i)) = by-parity (suc (suc i)) (λ e. omega (arith, ap number
         omega (arith, ap numberOf (even-digit (suc (suc i)) e ∙ ap (λ k. negℤ (pos k)) q))
 
 -- and the first numbers are those of a set's digits
-pub numbered-in : (w i : ℕ) → Lawful w → i < 2 ^ (w - 1) + 1 → T (inSet (largest w) (digitAt i))
+pub numbered-in : (w i : ℕ) → Wide w → i < 2 ^ (w - 1) + 1 → T (inSet (largest w) (digitAt i))
 unfolding inSet digitAt
 numbered-in w zero law h = tt
 numbered-in w (suc i) law h = by-parity (suc i) (λ e. odd e) (λ e. even e)

@@ -10,7 +10,7 @@ use lib.IntN.{ℤ, pos, negℤ, natAbs, _+ℤ_, _*ℤ_}
 use lib.ListN.{getD}
 use Rattle.meaning.specs.Digits.{largest}
 use Rattle.meaning.specs.Searching.{searchPlaces, Spells}
-use Rattle.width.specs.Widths.{Lawful}
+use Rattle.width.specs.Widths.{Wide}
 use Rattle.search.specs.Least.{nothing, digitAt, leftOver, Least}
 use Rattle.search.proofs.Negated.{least-negated}
 use Rattle.search.proofs.Lowest.{put, rest, lowest-parity, lowest-in}
@@ -50,7 +50,7 @@ module _ (w m : ℕ) {places p : ℕ} (few : places ≤ searchPlaces) (next : pl
         under (d ∷ ds) (s, h) = last (λ l. (s, l)) (λ e. absurd (n (left-parity m r (digitAt i) left (ap (λ x. natAbs x % 2) (sym e) ∙ lowest-parity s)))) (s, h)
 
     -- over which the places above are worth u
-    module _ (law : Lawful w) (fits : i < 2 ^ (w - 1) + 1) (u : ℤ) (sum : pos m ≡ digitAt i +ℤ pos 2 *ℤ u) where
+    module _ (law : Wide w) (fits : i < 2 ^ (w - 1) + 1) (u : ℤ) (sum : pos m ≡ digitAt i +ℤ pos 2 *ℤ u) where
       abbrev More : List ℤ → Type 0
       More ds = Ways (Under w places m i) (Spells w p u) (digitAt i) ds
 
@@ -68,7 +68,7 @@ module _ (w m : ℕ) {places p : ℕ} (few : places ≤ searchPlaces) (next : pl
           (lightest-as (λ ds s. more-is s) more-of (lightest-ways t (lightest-of (omega arith) l)))
 
     -- over which something even is left, whose half was searched
-    pub tried-even : {best a : ℕ} → Lawful w → i < 2 ^ (w - 1) + 1 → r % 2 ≡ 0 → Tried w places m i best → Least w p (pos (r / 2)) a
+    pub tried-even : {best a : ℕ} → Wide w → i < 2 ^ (w - 1) + 1 → r % 2 ≡ 0 → Tried w places m i best → Least w p (pos (r / 2)) a
         → Tried w places m (i + 1) (min best (a + min i 1))
     tried-even {best} {a} law fits e t l = go (above m r (digitAt i) left e)
       where

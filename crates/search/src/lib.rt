@@ -5,6 +5,7 @@ ghost use Prim.Native.Nat.{_+_, _≤_, min};
 ghost use lib.IntN.{pos};
 ghost use Rattle.meaning.specs.Searching.{searchPlaces, Search};
 ghost use Rattle.width.specs.Widths.{Lawful};
+ghost use Rattle.search.specs.Answers.{searched};
 ghost use Rattle.search.specs.Least.{mostNumber, leftOver, Least};
 use width::Known;
 use width::Width;
@@ -54,7 +55,7 @@ fn left_over(size: usize, i: usize) -> usize
 // The least weight of a string worth `size`. What is left over a digit may be negative: its size is searched, since a string with every digit negated is worth
 // the negative and weighs the same.
 fn least(width: Width, places: u8, size: usize) -> u8
-    requires { ⌜ Lawful (width .bits) ⌝ }
+    requires { ⌜ Lawful width ⌝ }
     requires { ⌜ (places ≤ searchPlaces) × (size ≤ mostNumber) ⌝ }
     ensures { λ r. ⌜ Least (width .bits) places (pos size) r ⌝ }
 {
@@ -80,6 +81,7 @@ fn least(width: Width, places: u8, size: usize) -> u8
 }
 
 // What the search answers: a refusal's number, or the least weight.
+#[repr(C)]
 pub struct Searched {
     pub refusal: u8,
     pub weight: u8,
@@ -96,7 +98,7 @@ fn refused(number: u8) -> Searched
 
 // The least weight of a string worth the number. Nine places suffice for every number that is taken, so there is one.
 pub fn search(number: u32, width: u8) -> Searched
-    ensures { λ r. ⌜ Search number width (r .refusal) (r .weight) ⌝ }
+    ensures { λ r. ⌜ Search number width (searched r) ⌝ }
 {
     match Width::known(width) {
         Known::Nothing => refused(2),

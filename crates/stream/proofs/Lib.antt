@@ -1,2 +1,3 @@
 -- Laws of streams of lines.
 pub mod Streams
+pub mod Framed

@@ -1,20 +1,15 @@
 // A stream of lines, taken in piece by piece: of a line that has not ended the first characters are kept, and a line that ends is answered.
-use lines::MOST_ANSWER;
-use lines::MOST_CHARACTERS;
-use lines::answer;
+use frames::MOST_ANSWER;
+use frames::MOST_CHARACTERS;
+use frames::answer;
 ghost use Prim.Native.Nat.{_+_, _≤_};
 ghost use lib.ListN.{length, drop};
-ghost use Rattle.lines.specs.Answered.{Lent};
-ghost use Rattle.stream.specs.Streams.{mostKept, Keeping, Stepped, Feeds, Ends};
+ghost use Rattle.meaning.specs.Frames.{Answer};
+ghost use Rattle.frames.specs.Answered.{mostAnswer, Lent};
+ghost use Rattle.stream.specs.Streams.{leastKept, Stepped, Feeds, Ends};
 
-// One character more than a line may have: a longer line is malformed as well.
-pub const MOST_KEPT: usize = MOST_CHARACTERS + 1;
-
-// How many characters are kept, and how many characters of answers there are.
-struct Stand {
-    kept: usize,
-    filled: usize,
-}
+// What has to be kept of a line at least: one character more than a frame may have, since a longer line is malformed as well.
+pub const LEAST_KEPT: usize = MOST_CHARACTERS + 1;
 
 // How many characters of a piece are used, how many are kept of the line that has not ended, and how many characters of answers there are.
 pub struct Fed {
@@ -23,21 +18,9 @@ pub struct Fed {
     pub filled: usize,
 }
 
-// A character that is no line feed: it is kept where there is room.
-fn keep(c: u8, line: &mut [u8], kept: usize) -> usize
-    requires { ⌜ (kept ≤ mostKept) × (mostKept ≤ length (now line)) ⌝ }
-    ensures { λ r. ⌜ Keeping c (now (line .entry)) kept (now (line .exit)) r ⌝ }
-{
-    if kept < MOST_KEPT {
-        line[kept] = c;
-        return kept + 1;
-    }
-    kept
-}
-
-// One character of a stream.
+// The next line of a piece, as far as it stands there. Where it ends, it is answered behind the other answers.
 fn step(
-    c: u8,
+    piece: &[u8],
     line: &mut [u8],
     bytes: &mut [u8],
     digits: &mut [i8],
@@ -45,21 +28,25 @@ fn step(
     out: &mut [u8],
     kept: usize,
     filled: usize,
-) -> Stand
-    requires { ⌜ (kept ≤ mostKept) × (mostKept ≤ length (now line)) ⌝ }
+) -> Fed
+    requires { ⌜ (kept ≤ length (now line)) × (leastKept ≤ length (now line)) ⌝ }
     requires { ⌜ filled ≤ length (now out) ⌝ }
     requires { ⌜ Lent (now bytes) (now digits) (now marks) (drop filled (now out)) ⌝ }
-    ensures { λ r. ⌜ Stepped c (now (line .entry)) kept (now (out .entry)) filled r (now (line .exit)) (now (out .exit)) ⌝ }
+    ensures { λ r. ⌜ Stepped Answer (now (piece .entry)) (now (line .entry)) kept (now (out .entry)) filled r (now (line .exit)) (now (out .exit)) ⌝ }
 {
-    if c == b'\n' {
-        let count = answer(&line[..kept], bytes, digits, marks, &mut out[filled..]);
-        return Stand {
+    let cut = cutter::next(piece, line, kept);
+    if cut.ended {
+        let end = cut.kept;
+        let count = answer(&line[..end], bytes, digits, marks, &mut out[filled..]);
+        return Fed {
+            used: cut.used,
             kept: 0,
             filled: filled + count,
         };
     }
-    Stand {
-        kept: keep(c, line, kept),
+    Fed {
+        used: cut.used,
+        kept: cut.kept,
         filled,
     }
 }
@@ -74,19 +61,28 @@ pub fn feed(
     marks: &mut [u64],
     out: &mut [u8],
 ) -> Fed
-    requires { ⌜ (kept ≤ mostKept) × (mostKept ≤ length (now line)) ⌝ }
+    requires { ⌜ (kept ≤ length (now line)) × (leastKept ≤ length (now line)) ⌝ }
     requires { ⌜ Lent (now bytes) (now digits) (now marks) (now out) ⌝ }
-    ensures { λ r. ⌜ Feeds (now (piece .entry)) (now (line .entry)) kept (now (out .entry)) r (now (line .exit)) (now (out .exit)) ⌝ }
+    ensures { λ r. ⌜ Feeds Answer mostAnswer (now (piece .entry)) (now (line .entry)) kept (now (out .entry)) r (now (line .exit)) (now (out .exit)) ⌝ }
 {
     let room = out.len() - MOST_ANSWER;
     let mut used = 0;
     let mut kept = kept;
     let mut filled = 0;
     while used < piece.len() && filled <= room {
-        let stand = step(piece[used], line, bytes, digits, marks, out, kept, filled);
-        kept = stand.kept;
-        filled = stand.filled;
-        used += 1;
+        let fed = step(
+            &piece[used..],
+            line,
+            bytes,
+            digits,
+            marks,
+            out,
+            kept,
+            filled,
+        );
+        used += fed.used;
+        kept = fed.kept;
+        filled = fed.filled;
     }
     Fed { used, kept, filled }
 }
@@ -100,9 +96,9 @@ pub fn finish(
     marks: &mut [u64],
     out: &mut [u8],
 ) -> usize
-    requires { ⌜ (kept ≤ mostKept) × (mostKept ≤ length (now line)) ⌝ }
+    requires { ⌜ (kept ≤ length (now line)) × (leastKept ≤ length (now line)) ⌝ }
     requires { ⌜ Lent (now bytes) (now digits) (now marks) (now out) ⌝ }
-    ensures { λ r. ⌜ Ends (now (line .entry)) kept r (now (out .exit)) ⌝ }
+    ensures { λ r. ⌜ Ends Answer (now (line .entry)) kept r (now (out .exit)) ⌝ }
 {
     if kept == 0 {
         return 0;

@@ -7,7 +7,8 @@ use Prim.Native.Nat.{ℕ, _+_, _*_, _<_, _≤_}
 use lib.IntN.{ℤ, pos}
 use lib.ListN.{set}
 use Rattle.meaning.specs.Digits.{nonzero}
-use Rattle.meaning.specs.Taping.{double, adds}
+use Rattle.meaning.specs.Words.{double, add, wordOf}
+use Rattle.meaning.specs.Taping.{moves}
 
 -- t is twice the word of an addition, by the digit raised by 128 to r
 pub record Twice (r t : ℕ) : Type 0 where
@@ -18,5 +19,5 @@ pub record Twice (r t : ℕ) : Type 0 where
 pub record Lowered (d : ℤ) (at : ℕ) (words₀ : List ℕ) (next : ℕ) (words : List ℕ) : Type 0 where
   pub next-is : next ≡ at + 1 + nonzero d
   pub after : ℕ
-  pub after-is : d ≢ pos 0 → adds d ≡ after ∷ []
-  pub words-are : words ≡ set (set words₀ at double) (at + 1) after
+  pub after-is : d ≢ pos 0 → moves add d ≡ after ∷ []
+  pub words-are : words ≡ set (set words₀ at (wordOf double)) (at + 1) after

@@ -1,15 +1,18 @@
 // The step tape of a digit string: a word and the step that it decodes to, and the call `tape`.
 ghost use mathlib.Core.Path.{_≡_};
 ghost use mathlib.Core.Logic.{_≢_};
-ghost use mathlib.Core.List.{_∷_, _++_};
+ghost use mathlib.Core.List.{[], _∷_, _++_};
 ghost use Prim.Native.Nat.{_+_, _-_, _≤_, _<_};
 ghost use lib.IntN.{pos};
 ghost use lib.ListN.{length, drop};
 ghost use lib.Seq.{sets};
 ghost use Rattle.meaning.specs.Digits.{nonzero, top};
-ghost use Rattle.meaning.specs.Taping.{word, double, adds, tapeOf, Tape};
-ghost use Rattle.tape.specs.Steps.{minus, stepOf, wordOf, Coded, moveOf};
+ghost use Rattle.meaning.specs.Words.{word, double, add, stepOf, signed as signedBy, wordOf};
+ghost use Rattle.meaning.specs.Taping.{moves, tapeOf, Tape};
+ghost use Rattle.walk.specs.Steps.{Coded};
+ghost use Rattle.tape.specs.Steps.{side, told, Moves};
 ghost use Rattle.tape.specs.Places.{Twice, Lowered};
+ghost use Rattle.tape.specs.Answers.{taped};
 use digits::Found;
 use width::Known;
 use width::Width;
@@ -38,7 +41,7 @@ pub enum Step {
 const CODE: u16 = 4096;
 
 pub fn decode(word: u16) -> Step
-    ensures { λ r. ⌜ r ≡ stepOf word ⌝ }
+    ensures { λ r. ⌜ told r ≡ stepOf word ⌝ }
 {
     let code = word / CODE;
     let entry = word % CODE;
@@ -67,7 +70,7 @@ pub fn decode(word: u16) -> Step
 // The word of a move whose code with a plus is `code`: with a minus it is the next.
 fn coded(code: u16, step: Move) -> u16
     requires { ⌜ (code ≤ 3) × (step .entry < 4096) ⌝ }
-    ensures { λ r. ⌜ r ≡ word (code + minus (step .sign)) (step .entry) ⌝ }
+    ensures { λ r. ⌜ r ≡ word (signedBy (side (step .sign)) code) (step .entry) ⌝ }
 {
     let sign = step.sign;
     match sign {
@@ -78,8 +81,8 @@ fn coded(code: u16, step: Move) -> u16
 
 // A bad step's word is bad too: no step has the code 15.
 pub fn encode(step: Step) -> u16
-    requires { ⌜ Coded step ⌝ }
-    ensures { λ r. ⌜ r ≡ wordOf step ⌝ }
+    requires { ⌜ Coded (told step) ⌝ }
+    ensures { λ r. ⌜ r ≡ wordOf (told step) ⌝ }
 {
     match step {
         Step::Double => 0,
@@ -92,7 +95,7 @@ pub fn encode(step: Step) -> u16
 // The move of a nonzero digit.
 fn move_of(digit: i8) -> Move
     requires { ⌜ digit ≢ pos 0 ⌝ }
-    ensures { λ r. ⌜ r ≡ moveOf digit ⌝ }
+    ensures { λ r. ⌜ Moves digit r ⌝ }
 {
     let entry = ((signed::magnitude(digit) - 1) / 2) as u16;
     if digit < 0 {
@@ -127,7 +130,7 @@ fn twice(raised: u32) -> u32
 
 // The word of a nonzero digit's addition. There is one for 0 too, which means nothing: so a machine has no branch to guess.
 fn added(digit: i8) -> u16
-    ensures { λ r. ⌜ (digit ≢ pos 0 → r ≡ wordOf (Step.Add (moveOf digit))) ⌝ }
+    ensures { λ r. ⌜ (digit ≢ pos 0 → moves add digit ≡ r ∷ []) ⌝ }
 {
     (twice(signed::raised(digit, 128)) / 2) as u16
 }
@@ -146,7 +149,7 @@ fn lower(digit: i8, at: usize, words: &mut [u16]) -> usize
 // The words of place 0, after which nothing is written.
 fn lowest(digit: i8, at: usize, words: &mut [u16])
     requires { ⌜ at + 1 + nonzero digit ≤ length (now words) ⌝ }
-    ensures { λ _. ⌜ now (words .exit) ≡ sets (now (words .entry)) at (double ∷ adds digit) ⌝ }
+    ensures { λ _. ⌜ now (words .exit) ≡ sets (now (words .entry)) at (wordOf double ∷ moves add digit) ⌝ }
 {
     words[at] = encode(Step::Double);
     if digit != 0 {
@@ -184,6 +187,7 @@ fn without(n: usize, k: usize) -> usize
 }
 
 // What a tape is: a refusal's number and place, or the counts of its words, doublings and additions.
+#[repr(C)]
 pub struct Taped {
     pub refusal: u8,
     pub place: u16,
@@ -206,7 +210,7 @@ fn refused(number: u8, place: u16) -> Taped
 
 // The tape of a string: nothing is written before the string and the room for its words have been judged.
 pub fn tape(width: u8, digits: &[i8], words: &mut [u16]) -> Taped
-    ensures { λ r. ⌜ Tape width (now (digits .entry)) (now (words .entry)) (r .refusal) (r .place) (r .words) (r .doublings) (r .additions) (now (words .exit)) ⌝ }
+    ensures { λ r. ⌜ Tape width (now (digits .entry)) (now (words .entry)) (taped r) (now (words .exit)) ⌝ }
 {
     let Known::As(known) = Width::known(width) else {
         return refused(2, 0);

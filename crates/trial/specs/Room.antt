@@ -1,6 +1,9 @@
--- The room that an answer needs.
+-- The room that an answer needs, and what a step over the input leaves.
 -- Assumes nothing.
-use Prim.Native.Nat.{ℕ, _+_, _≤_}
+use mathlib.Core.List.{List}
+use Prim.Native.Nat.{ℕ, _+_, _<_, _≤_}
+use lib.ListN.{length}
+use Rattle.cutter.specs.declared.Cut.{Cut}
 
 -- the longest answer, its line feed counted
 abbrev pub mostAnswer : ℕ
@@ -9,3 +12,9 @@ mostAnswer = 4419
 -- an answer ends at r, and there is room for a line feed after it
 abbrev pub Answered : ℕ → Type 0
 Answered r = r + 1 ≤ mostAnswer
+
+-- a step moves on in a piece, and what is kept is within the line
+pub record Moved (piece line : List ℕ) (r : Cut) : Type 0 where
+  pub moves : 0 < length piece → 0 < r .used
+  pub used-within : r .used ≤ length piece
+  pub kept-within : r .kept ≤ length line

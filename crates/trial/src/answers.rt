@@ -1,6 +1,5 @@
 // The answer to a line: its bytes are read, the call that they name is made, and what it answers is printed.
 use crate::checking;
-use crate::hexadecimal;
 use crate::print;
 use crate::reading;
 use crate::recoding;
@@ -51,7 +50,7 @@ pub fn answer(line: &[u8], frame: &mut [u8], out: &mut [u8]) -> usize
     requires { ⌜ mostAnswer ≤ length (now out) ⌝ }
     ensures { λ r. ⌜ r ≤ mostAnswer ⌝ }
 {
-    let count = hexadecimal::read(line, frame);
+    let count = hexadecimal::read_pairs(line, frame);
     let end = told(&frame[..count], out);
     out[end] = b'\n';
     end + 1

@@ -37,21 +37,13 @@ pub fn four(frame: &[u8], at: usize) -> u32
     65536 * (two(frame, at) as u32) + two(frame, at + 2) as u32
 }
 
-// A byte as a digit, in two's complement.
-fn signed(b: u8) -> i8 {
-    if b < 128 {
-        return b as i8;
-    }
-    -1 - ((255 - b) as i8)
-}
-
-// Bytes as digits.
+// Bytes as digits, in two's complement.
 pub fn digits(bytes: &[u8], digits: &mut [i8])
     requires { ⌜ length (now bytes) ≡ length (now digits) ⌝ }
 {
     let mut i = 0;
     while i < digits.len() {
-        digits[i] = signed(bytes[i]);
+        digits[i] = hexadecimal::digit_of(bytes[i]);
         i += 1;
     }
 }

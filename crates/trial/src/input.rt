@@ -1,17 +1,11 @@
 // Standard input, line by line. A line may come in several reads; of one that has not ended the first characters are kept.
 use crate::answers;
-use crate::print;
+use cutter::Cut;
 use libc::STDIN_FILENO;
 use libc::STDOUT_FILENO;
-ghost use Prim.Native.Nat.{_+_, _≤_};
+ghost use Prim.Native.Nat.{_≤_};
 ghost use lib.ListN.{length};
-ghost use Rattle.trial.specs.Room.{mostAnswer};
-
-// How many characters of a line are kept, and how many characters of answers there are.
-struct Stand {
-    kept: usize,
-    filled: usize,
-}
+ghost use Rattle.trial.specs.Room.{mostAnswer, Moved};
 
 // How many characters of a line are kept after a read, and whether there is more to read.
 struct Fed {
@@ -19,70 +13,48 @@ struct Fed {
     more: bool,
 }
 
-// Makes room for an answer more: where there is none, what is there is written out.
-fn room(out: &[u8], filled: usize) -> usize
-    requires { ⌜ (filled ≤ length (now out)) × (mostAnswer ≤ length (now out)) ⌝ }
-    ensures { λ r. ⌜ r + mostAnswer ≤ length (now (out .entry)) ⌝ }
+// A line has ended: its answer is written out.
+fn end(line: &[u8], frame: &mut [u8], out: &mut [u8])
+    requires { ⌜ mostAnswer ≤ length (now out) ⌝ }
 {
-    if out.len() - filled < print::MOST {
-        io::write_all(STDOUT_FILENO, &out[..filled]);
-        return 0;
-    }
-    filled
+    let count = answers::answer(line, frame, out);
+    io::write_all(STDOUT_FILENO, &out[..count]);
 }
 
-// A line has ended: its answer is put after the others.
-fn end(line: &[u8], frame: &mut [u8], out: &mut [u8], filled: usize) -> usize
-    requires { ⌜ (filled ≤ length (now out)) × (mostAnswer ≤ length (now out)) ⌝ }
-    ensures { λ r. ⌜ r ≤ length (now (out .entry)) ⌝ }
-{
-    let at = room(out, filled);
-    at + answers::answer(line, frame, &mut out[at..])
-}
-
-// One character. Of a line that is too long for a frame the rest is passed over.
-fn step(
-    c: u8,
-    line: &mut [u8],
-    frame: &mut [u8],
-    out: &mut [u8],
-    kept: usize,
-    filled: usize,
-) -> Stand
-    requires { ⌜ (kept ≤ length (now line)) × (filled ≤ length (now out)) × (mostAnswer ≤ length (now out)) ⌝ }
-    ensures { λ r. ⌜ (r .kept ≤ length (now (line .entry))) × (r .filled ≤ length (now (out .entry))) ⌝ }
-{
-    if c == b'\n' {
-        return Stand {
-            kept: 0,
-            filled: end(&line[..kept], frame, out, filled),
-        };
-    }
-    if kept < line.len() {
-        line[kept] = c;
-        return Stand {
-            kept: kept + 1,
-            filled,
-        };
-    }
-    Stand { kept, filled }
-}
-
-// The characters of a read.
-fn feed(piece: &[u8], line: &mut [u8], frame: &mut [u8], out: &mut [u8], kept: usize) -> Stand
+// The next line of a piece, as far as it stands there.
+fn step(piece: &[u8], line: &mut [u8], frame: &mut [u8], out: &mut [u8], kept: usize) -> Cut
     requires { ⌜ (kept ≤ length (now line)) × (mostAnswer ≤ length (now out)) ⌝ }
-    ensures { λ r. ⌜ (r .kept ≤ length (now (line .entry))) × (r .filled ≤ length (now (out .entry))) ⌝ }
+    ensures { λ r. ⌜ Moved (now (piece .entry)) (now (line .entry)) r ⌝ }
 {
-    let mut stand = Stand { kept, filled: 0 };
-    let mut i = 0;
-    while i < piece.len() {
-        stand = step(piece[i], line, frame, out, stand.kept, stand.filled);
-        i += 1;
+    let cut = cutter::next(piece, line, kept);
+    if cut.ended {
+        let whole = cut.kept;
+        end(&line[..whole], frame, out);
+        return Cut {
+            used: cut.used,
+            kept: 0,
+            ended: true,
+        };
     }
-    stand
+    cut
 }
 
-// Reads once, and writes out the answers to the lines that have ended.
+// The characters of a read, and how many are kept of the line that has not ended.
+fn feed(piece: &[u8], line: &mut [u8], frame: &mut [u8], out: &mut [u8], kept: usize) -> usize
+    requires { ⌜ (kept ≤ length (now line)) × (mostAnswer ≤ length (now out)) ⌝ }
+    ensures { λ r. ⌜ r ≤ length (now (line .entry)) ⌝ }
+{
+    let mut used = 0;
+    let mut kept = kept;
+    while used < piece.len() {
+        let cut = step(&piece[used..], line, frame, out, kept);
+        used += cut.used;
+        kept = cut.kept;
+    }
+    kept
+}
+
+// Reads once, and answers the lines that have ended.
 fn some(line: &mut [u8], frame: &mut [u8], out: &mut [u8], kept: usize) -> Fed
     requires { ⌜ (kept ≤ length (now line)) × (mostAnswer ≤ length (now out)) ⌝ }
     ensures { λ r. ⌜ r .kept ≤ length (now (line .entry)) ⌝ }
@@ -93,27 +65,14 @@ fn some(line: &mut [u8], frame: &mut [u8], out: &mut [u8], kept: usize) -> Fed
         return Fed { kept, more: false };
     }
     let count = io::count(got, &piece);
-    let stand = feed(&piece[..count], line, frame, out, kept);
-    let filled = stand.filled;
-    io::write_all(STDOUT_FILENO, &out[..filled]);
     Fed {
-        kept: stand.kept,
+        kept: feed(&piece[..count], line, frame, out, kept),
         more: true,
     }
 }
 
-// A last line without a line feed counts if not empty.
-fn finish(line: &[u8], frame: &mut [u8], out: &mut [u8])
-    requires { ⌜ mostAnswer ≤ length (now out) ⌝ }
-{
-    if line.len() == 0 {
-        return;
-    }
-    let filled = end(line, frame, out, 0);
-    io::write_all(STDOUT_FILENO, &out[..filled]);
-}
-
-// A proved loop has to end, and nothing says that the input does: the loop counts its turns down, from a number that no run uses up.
+// A proved loop has to end, and nothing says that the input does: the loop counts its turns down, from a number that no run uses up. A last line
+// without a line feed counts if not empty.
 pub fn run(line: &mut [u8], frame: &mut [u8], out: &mut [u8])
     requires { ⌜ mostAnswer ≤ length (now out) ⌝ }
 {
@@ -126,5 +85,7 @@ pub fn run(line: &mut [u8], frame: &mut [u8], out: &mut [u8])
         more = fed.more;
         turns -= 1;
     }
-    finish(&line[..kept], frame, out);
+    if 0 < kept {
+        end(&line[..kept], frame, out);
+    }
 }

@@ -3,7 +3,6 @@
 mod answers;
 mod checking;
 mod frames;
-mod hexadecimal;
 mod input;
 mod lent;
 mod print;
@@ -17,6 +16,6 @@ mod taping;
 fn main() {
     let mut line = [0u8; 2 * frames::MOST + 1];
     let mut frame = [0u8; frames::MOST];
-    let mut out = io::large_buffer();
+    let mut out = [0u8; print::MOST];
     input::run(&mut line, &mut frame, &mut out);
 }

@@ -1,6 +1,5 @@
 // Numbers written to lent memory. Each function writes from an index on and gives the index after what it wrote.
 use crate::frames;
-use crate::hexadecimal;
 ghost use mathlib.Core.Path.{_≡_};
 ghost use Prim.Native.Nat.{_+_, _*_, _≤_};
 ghost use lib.ListN.{length};
@@ -23,21 +22,11 @@ pub fn number(x: u64, bytes: usize, at: usize, out: &mut [u8]) -> usize
     at + 2 * bytes
 }
 
-// A digit as a byte, in two's complement: a size below nought is taken from 0, and what is too little wraps.
-fn byte_of(d: i8) -> u8 {
-    let size = signed::magnitude(d);
-    if d < 0 {
-        std::num::wrapping_sub_u8(0, size)
-    } else {
-        size
-    }
-}
-
 pub fn digit(d: i8, at: usize, out: &mut [u8]) -> usize
     requires { ⌜ at + 2 ≤ length (now out) ⌝ }
     ensures { λ r. ⌜ r ≡ at + 2 ⌝ }
 {
-    number(byte_of(d) as u64, 1, at, out)
+    number(hexadecimal::byte_of(d) as u64, 1, at, out)
 }
 
 // A refusal's number and its place, and two counts, at the front.

@@ -1,16 +1,16 @@
 // The width of a recoding, with everything that depends on it alone: the limits of widths, strings and tapes, the digit set, and where its windows start
 // in the table. Every call gets its width from a raw byte by `known` and by nothing else.
 ghost use mathlib.Core.Path.{_≡_};
-ghost use Prim.Native.Nat.{_+_, _-_, _^_, max};
-ghost use Rattle.meaning.specs.Digits.{leastWidth, mostWidth, mostPlaces, inSet, largest};
-ghost use Rattle.meaning.specs.Taping.{mostWords};
+ghost use Prim.Native.Nat.{_+_, _*_, _≤_, max};
+ghost use Rattle.meaning.specs.Digits.{leastWidth, mostWidth, mostPlaces, inSet, entries};
+ghost use Rattle.meaning.specs.Words.{mostWords};
 ghost use Rattle.meaning.specs.Windows.{tableStart};
-ghost use Rattle.meaning.specs.Running.{entries};
-ghost use Rattle.width.specs.Widths.{Lawful, Limits, knownOf};
+ghost use Rattle.width.specs.Widths.{Wide, Limits, knownOf};
 
-// How many bits a digit has, its sign included.
+// How many bits a digit has, its sign included, and the largest digit. The spacing of digits and the windows go by the bits, the digit set and the entries by the largest digit.
 pub struct Width {
     bits: u8,
+    largest: u8,
 }
 
 // What a raw byte is: a width from the smallest to the largest, or none.
@@ -44,7 +44,10 @@ impl Width {
         if Width::MOST < byte {
             return Known::Nothing;
         }
-        Known::As(Width { bits: byte })
+        Known::As(Width {
+            bits: byte,
+            largest: (1u8 << (byte - 1)) - 1,
+        })
     }
 
     pub fn bits(self) -> u32
@@ -53,19 +56,16 @@ impl Width {
         self.bits as u32
     }
 
-    // How many odd multiples a run at this width stores.
+    // How many odd multiples a run stores: one for each positive digit.
     pub fn entries(self) -> usize
-        requires { ⌜ Lawful (self .bits) ⌝ }
-        ensures { λ r. ⌜ r ≡ entries (self .bits) ⌝ }
+        ensures { λ r. ⌜ r ≡ entries (self .largest) ⌝ }
     {
-        let b = self.bits;
-        1usize << (b - Width::LEAST)
+        (self.largest as usize + 1) / 2
     }
 
     // The size of the digit set: 0, and an odd number and its negative for each entry. Its contract also says what the limits above are.
     pub fn digits(self) -> usize
-        requires { ⌜ Lawful (self .bits) ⌝ }
-        ensures size { λ r. ⌜ r ≡ 2 ^ (self .bits - 1) + 1 ⌝ }
+        ensures size { λ r. ⌜ r ≡ 2 * entries (self .largest) + 1 ⌝ }
         ensures widths { λ r. do ⌜ Limits leastWidth mostWidth (← ⟦Width::LEAST⟧ .entry) (← ⟦Width::MOST⟧ .entry) ⌝ }
         ensures places { λ r. do ⌜ Limits 0 mostPlaces (← ⟦Width::LEAST_PLACES⟧ .entry) (← ⟦Width::MOST_PLACES⟧ .entry) ⌝ }
         ensures words { λ r. do ⌜ Limits 0 mostWords (← ⟦Width::LEAST_WORDS⟧ .entry) (← ⟦Width::MOST_WORDS⟧ .entry) ⌝ }
@@ -75,18 +75,20 @@ impl Width {
 
     // Whether `d` is in the digit set. Every set has 1, so 0 is tested as 1: a machine then has no branch to guess at each digit that is not 0.
     pub fn holds(self, d: i8) -> bool
-        requires { ⌜ Lawful (self .bits) ⌝ }
-        ensures { λ r. ⌜ r ≡ inSet (largest (self .bits)) d ⌝ }
+        requires { ⌜ 1 ≤ self .largest ⌝ }
+        ensures { λ r. ⌜ r ≡ inSet (self .largest) d ⌝ }
     {
-        let b = self.bits;
-        let half = 1u8 << (b - 1);
         let size = some(signed::magnitude(d));
-        if size % 2 == 1 { size < half } else { false }
+        if size % 2 == 1 {
+            size <= self.largest
+        } else {
+            false
+        }
     }
 
     // Where the windows of this width start in the table: those of the smaller widths stand before them.
     pub fn table_start(self) -> usize
-        requires { ⌜ Lawful (self .bits) ⌝ }
+        requires { ⌜ Wide (self .bits) ⌝ }
         ensures { λ r. ⌜ r ≡ tableStart (self .bits) ⌝ }
     {
         let b = self.bits;

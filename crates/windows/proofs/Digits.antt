@@ -17,7 +17,7 @@ use Rattle.laws.proofs.Powers.{pow-pred, trailing-any, odd-part}
 use Rattle.meaning.specs.Digits.{mostWidth}
 use Rattle.meaning.specs.Windows.{leading, second, windowWorth, twos, shrink, oddPart, entryUnit, entryTwos}
 use Rattle.forms.proofs.Block.{unit-block}
-use Rattle.width.specs.Widths.{Lawful}
+use Rattle.width.specs.Widths.{Wide}
 use Rattle.rows.specs.declared.Window.{Window}
 use Rattle.windows.specs.Parts.{Parts}
 use Rattle.windows.proofs.Sizes.{Sized, signed, double, rise, fall}
@@ -54,7 +54,7 @@ shrink-signed p false n h = refl
 shrink-signed p true zero h = absurd (omega arith)
 shrink-signed p true (suc n) h = refl
 
-module _ (w : ℕ) (lawful : Lawful w) (v : ℤ) where
+module _ (w : ℕ) (lawful : Wide w) (v : ℤ) where
   -- u and k of v are a digit and below w
   module _ (some : 0 < natAbs v) (most : 2 * natAbs v ≤ 2 ^ w) where
     unit-small : natAbs (oddPart w v) < 2 ^ (w - 1)
@@ -76,7 +76,7 @@ module _ (w : ℕ) (lawful : Lawful w) (v : ℤ) where
       record { unit-is = p .unit-is ∙ u; twos-is = p .twos-is ∙ k; small = unit-small s m; few = twos-few s m }
 
 -- ---- a window whose two leading bits are different
-module _ (w s : ℕ) (lawful : Lawful w) (l : s < 2 ^ (w + 1)) (d : leading w s ≢ second w s) where
+module _ (w s : ℕ) (lawful : Wide w) (l : s < 2 ^ (w + 1)) (d : leading w s ≢ second w s) where
   abbrev v : ℤ
   v = windowWorth w s
 
@@ -132,7 +132,7 @@ negated a b h = rw (minus (b - a), minus b) (simp diffs (omega ring))
 pub plain-sub : (a b : ℕ) → b ≤ a → pos (a - b) ≡ pos a -ℤ pos b
 plain-sub a b h = rw (minus b) (simp diffs (omega ring))
 
-module _ (w s less : ℕ) (lawful : Lawful w) (l : s < 2 ^ (w + 1)) (d : leading w s ≢ second w s) (o : less ≤ s % 2) where
+module _ (w s less : ℕ) (lawful : Wide w) (l : s < 2 ^ (w + 1)) (d : leading w s ≢ second w s) (o : less ≤ s % 2) where
   abbrev half : ℕ
   half = (s + 1) / 2 - less
 
@@ -199,7 +199,7 @@ module _ (w s less : ℕ) (lawful : Lawful w) (l : s < 2 ^ (w + 1)) (d : leading
           of false half z refl (ap (λ t. pos up -ℤ pos t) none ∙ +ℤ-idr (pos up)) (λ q. omega (arith, none))
 
 -- ---- any window
-module _ (w s : ℕ) (lawful : Lawful w) (l : s < 2 ^ (w + 1)) where
+module _ (w s : ℕ) (lawful : Wide w) (l : s < 2 ^ (w + 1)) where
   -- u of its entry is below 2 ^ (w - 1) in size
   pub entry-small : natAbs (entryUnit w s) < 2 ^ (w - 1)
   unfolding entryUnit

@@ -6,14 +6,14 @@ ghost use mathlib.Core.Logic.{_≢_};
 ghost use Prim.Native.Nat.{_+_, _%_, _^_, _≤_, _<_};
 ghost use lib.IntN.{pos, _-ℤ_};
 ghost use Rattle.meaning.specs.Windows.{leading, second, windowWorth, twos, oddPart, entryUnit, entryTwos};
-ghost use Rattle.width.specs.Widths.{Lawful};
+ghost use Rattle.width.specs.Widths.{Wide};
 ghost use Rattle.windows.specs.Parts.{Parts};
 use rows::Window;
 use width::Width;
 
 // Window s looked up: u and k are 0 where its two leading bits are equal.
 pub fn look_up(w: Width, s: u32) -> Window
-    requires { ⌜ Lawful (w .bits) ⌝ }
+    requires { ⌜ Wide (w .bits) ⌝ }
     requires { ⌜ s < 2 ^ (w .bits + 1) ⌝ }
     ensures { λ r. ⌜ Parts (w .bits) (entryUnit (w .bits) s) (entryTwos (w .bits) s) r ⌝ }
 {
@@ -34,7 +34,7 @@ pub fn difference(a: u32, b: u32) -> i8
 
 // Window s, whose two leading bits are different, worked out without a branch: what it is worth less `less`, which is 0, or 1 at an odd window. With 0 it is the entry of s.
 pub fn work_out(w: Width, s: u32, less: u32) -> Window
-    requires { ⌜ Lawful (w .bits) ⌝ }
+    requires { ⌜ Wide (w .bits) ⌝ }
     requires { ⌜ s < 2 ^ (w .bits + 1) ⌝ }
     requires { ⌜ leading (w .bits) s ≢ second (w .bits) s ⌝ }
     requires { ⌜ less ≤ s % 2 ⌝ }

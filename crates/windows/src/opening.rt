@@ -2,7 +2,7 @@
 ghost use Prim.Native.Nat.{_+_, _-_, _≤_, _<_};
 ghost use mathlib.Core.Path.{_≡_};
 ghost use Rattle.meaning.specs.Digits.{mostPlaces};
-ghost use Rattle.width.specs.Widths.{Lawful};
+ghost use Rattle.width.specs.Widths.{Wide};
 ghost use Rattle.windows.specs.Openings.{Tells, Placed};
 use rows::Window;
 use width::Width;
@@ -23,7 +23,7 @@ pub fn under(left: usize, span: usize) -> usize
 
 // Whether window s opens: whether its two leading bits are different.
 pub fn opens(w: Width, s: u32) -> bool
-    requires { ⌜ Lawful (w .bits) ⌝ }
+    requires { ⌜ Wide (w .bits) ⌝ }
     ensures { λ r. ⌜ Tells (w .bits) s r ⌝ }
 {
     let width = w.bits();
@@ -32,7 +32,7 @@ pub fn opens(w: Width, s: u32) -> bool
 
 // Where the digit of a window over `left` places stands.
 pub fn placed(w: Width, window: Window, left: usize) -> Place
-    requires { ⌜ Lawful (w .bits) ⌝ }
+    requires { ⌜ Wide (w .bits) ⌝ }
     requires { ⌜ (left ≤ mostPlaces) × (window .twos < w .bits) × (w .bits ≤ left + window .twos) ⌝ }
     ensures { λ r. ⌜ Placed (w .bits) window left r ⌝ }
 {

@@ -12,7 +12,7 @@ use Rattle.digits.proofs.lowest_bad.Statement.{statement}
 use Rattle.digits.proofs.lowest_bad.Tie as tie
 
 abbrev Inv-loop : tie.InvT-loop
-Inv-loop width digits i₀ i = (i ≤ length digits) × Passed (width .bits) digits i
+Inv-loop width digits i₀ i = (i ≤ length digits) × Passed (width .largest) digits i
 
 abbrev μ-loop : tie.MeasureT-loop
 μ-loop width digits i₀ i = length digits - i
@@ -30,7 +30,7 @@ returns : tie.Need-returns Inv-loop μ-loop
 returns c =
     let a = c .before .before .before .before .before .args in
     let l = c .before .before .before .before .loop in
-    pass-bad (a .width .bits) (a .digits .now) (l .i) (l .inv .1) (omega arith) (toZ-ofZ {w = w8} (record { sfits = c .before .before .holds-arg .given })) (flag (ap not (sym (c .before .holds .ensures)) ∙ c .if1 .taken))
+    pass-bad (a .width .largest) (a .digits .now) (l .i) (l .inv .1) (omega arith) (toZ-ofZ {w = w8} (record { sfits = c .before .before .holds-arg .given })) (flag (ap not (sym (c .before .holds .ensures)) ∙ c .if1 .taken))
 
 add-i : tie.Need-add-i Inv-loop μ-loop
 add-i c = omega arith
@@ -42,13 +42,13 @@ loop-again : tie.Need-loop-again Inv-loop μ-loop
 loop-again c =
     let a = c .before .before .before .before .before .args in
     let l = c .before .before .before .before .loop in
-    (omega arith, pass-more (a .width .bits) (a .digits .now) (l .i) (l .inv .1) (toZ-ofZ {w = w8} (record { sfits = c .before .before .holds-arg .given })) (flag (sym (c .before .holds .ensures) ∙ not-false _ (c .if1 .left))))
+    (omega arith, pass-more (a .width .largest) (a .digits .now) (l .i) (l .inv .1) (toZ-ofZ {w = w8} (record { sfits = c .before .before .holds-arg .given })) (flag (sym (c .before .holds .ensures) ∙ not-false _ (c .if1 .left))))
 
 returns-2 : tie.Need-returns-2 Inv-loop μ-loop
 returns-2 c =
     let s = c .before .before in
     let l = c .before .loop in
-    absurd (pass-all (s .args .width .bits) (s .args .digits .now) (l .i) (l .inv .1) (omega arith) (s .pre .1))
+    absurd (pass-all (s .args .width .largest) (s .args .digits .now) (l .i) (l .inv .1) (omega arith) (s .pre .1))
 
 pub lowest-bad-spec : {M : Type 1} → statement M
 lowest-bad-spec =

@@ -7,13 +7,13 @@ use lib.ListN.{length, take}
 use lib.Seq.{take-all}
 use mir.Syntax.{w8}
 use mir.Facts.{toZ-ofZ}
-use Rattle.meaning.specs.Digits.{largest, inSet, allIn}
+use Rattle.meaning.specs.Digits.{inSet, allIn}
 use Rattle.digits.proofs.Scans.{all-next}
 use Rattle.digits.proofs.sound.Statement.{statement}
 use Rattle.digits.proofs.sound.Tie as tie
 
 abbrev Inv-loop : tie.InvT-loop
-Inv-loop width digits all₀ i₀ all i = (i ≤ length digits) × (all ≡ allIn (largest (width .bits)) (take i digits))
+Inv-loop width digits all₀ i₀ all i = (i ≤ length digits) × (all ≡ allIn (width .largest) (take i digits))
 
 abbrev μ-loop : tie.MeasureT-loop
 μ-loop width digits all₀ i₀ all i = length digits - i
@@ -42,7 +42,7 @@ loop-again c =
     let h = c .before in
     let a = h .before .before .before .before .args in
     let l = h .before .before .before .loop in
-    let m = largest (a .width .bits) in (
+    let m = a .width .largest in (
       omega arith,
       c .both .ensures ∙ ap (λ b. b && h .holds .result) (l .inv .1)
           ∙ ap (λ b. allIn m (take (l .i) (a .digits .now)) && b) (h .holds .ensures ∙ ap (inSet m) (toZ-ofZ {w = w8} (record { sfits = h .before .holds-arg .given })))
@@ -50,7 +50,7 @@ loop-again c =
     )
 
 returns : tie.Need-returns Inv-loop μ-loop
-returns c = let a = c .before .before .args in c .before .loop .inv .1 ∙ ap (allIn (largest (a .width .bits))) (take-all (c .before .loop .i) (a .digits .now) (omega arith))
+returns c = let a = c .before .before .args in c .before .loop .inv .1 ∙ ap (allIn (a .width .largest)) (take-all (c .before .loop .i) (a .digits .now) (omega arith))
 
 pub sound-spec : {M : Type 1} → statement M
 sound-spec =

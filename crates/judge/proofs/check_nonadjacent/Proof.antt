@@ -3,10 +3,10 @@ use mathlib.Core.Path.{subst}
 use native.Mathlib.Omega.{arith}
 use borrow.Author.Needs.{needs}
 use denote.Ref.{now}
-use Rattle.meaning.specs.Refusals.{lowest}
-use Rattle.meaning.specs.Checking.{Crowded}
+use Rattle.meaning.specs.Refusals.{Lowest}
+use Rattle.meaning.specs.Checking.{Crowded, nonadjacentRules}
 use Rattle.judge.specs.Spaces.{Spacing}
-use Rattle.judge.proofs.Rules.{refuses, plain-refuses, crowded-few, first-10, plain-accepts}
+use Rattle.judge.proofs.Refusals.{refuses, plain-refuses, crowded-few, until-10, plain-accepts}
 use Rattle.judge.proofs.check_nonadjacent.Statement.{statement}
 use Rattle.judge.proofs.check_nonadjacent.Tie as tie
 
@@ -15,26 +15,17 @@ abbrev start : tie.After-check → tie.Start
 start c = c .before .before
 
 -- the lower place of the lowest pair
-pair : (c : tie.After-place) → let a = start (c .before .before .before .before .before) .args in lowest (Crowded (a .width) (now (a .digits))) (c .place .given .0 .0)
+pair : (c : tie.After-place) → let a = start (c .before .before .before .before .before) .args in Lowest (Crowded (a .width) (now (a .digits))) (c .place .given .0 .0)
 pair c =
     let k = c .before .before in
     let a = start (k .before .before .before) .args in
     subst (Spacing (a .width) (now (a .digits))) (c .place .given .1) (k .spacing .ensures)
-
-check-requires : tie.Need-check-requires
-check-requires c κs = search needs
 
 returns : tie.Need-returns
 returns c =
     let k = c .before .before in
     let a = start k .args in
     plain-refuses (a .width) (now (a .scalar)) (now (a .digits)) (k .check .ensures) (c .if1 .taken)
-
-spacing-requires : tie.Need-spacing-requires
-spacing-requires c κs = search needs
-
-enum-known-place : tie.Need-enum-known-place
-enum-known-place c = search needs
 
 cast-refused : tie.Need-cast-refused
 cast-refused c =
@@ -43,19 +34,13 @@ cast-refused c =
     let a = start k .args in
     omega (arith, crowded-few (a .width) (now (a .scalar)) (now (a .digits)) (k .check .ensures) (e .if1 .left) (pair (c .before) .0))
 
-refused-requires : tie.Need-refused-requires
-refused-requires c κs = search needs
-
-enum-told : tie.Need-enum-told
-enum-told c = search needs
-
 returns-2 : tie.Need-returns-2
 returns-2 c =
     let p = c .before .before in
     let e = p .before .before .before in
     let k = e .before .before in
     let a = start k .args in
-    refuses (c .refused .ensures) (first-10 (a .width) (now (a .scalar)) (now (a .digits)) (k .check .ensures) (e .if1 .left) (pair p))
+    refuses (nonadjacentRules (a .width) (now (a .scalar)) (now (a .digits))) tt (now (a .digits)) 5 _ (c .refused .ensures) (until-10 (a .width) (now (a .scalar)) (now (a .digits)) (k .check .ensures) (e .if1 .left) (pair p))
 
 returns-3 : tie.Need-returns-3
 returns-3 c =
@@ -68,4 +53,4 @@ returns-3 c =
 
 pub check-nonadjacent-spec : {M : Type 1} → statement M
 check-nonadjacent-spec =
-    tie.close (tie.spec check-requires returns spacing-requires enum-known-place cast-refused refused-requires enum-told returns-2 returns-3)
+    tie.close (tie.spec (λ c κs. search needs) returns (λ c κs. search needs) (λ c. search needs) cast-refused (λ c κs. search needs) (λ c. search needs) returns-2 returns-3)

@@ -12,12 +12,6 @@ use Rattle.judge.specs.Levels.{level}
 use Rattle.judge.proofs.digit_at.Statement.{statement}
 use Rattle.judge.proofs.digit_at.Tie as tie
 
-shared-slice-copy-out-raised : tie.Need-shared-slice-copy-out-raised
-shared-slice-copy-out-raised c = search needs
-
-raised-requires : tie.Need-raised-requires
-raised-requires c κs = search needs
-
 returns : tie.Need-returns
 returns c = subst (λ d. Raised level d (c .raised .result)) (toZ-ofZ {w = w8} (record { sfits = c .before .raised-arg .given })) (c .raised .ensures)
 
@@ -28,4 +22,4 @@ returns-2 c =
     rw none (record { is = refl; least = lit≤ tt; most = lit≤ tt })
 
 pub digit-at-spec : {M : Type 1} → statement M
-digit-at-spec = tie.close (tie.spec shared-slice-copy-out-raised raised-requires returns returns-2)
+digit-at-spec = tie.close (tie.spec (λ c. search needs) (λ c κs. search needs) returns returns-2)

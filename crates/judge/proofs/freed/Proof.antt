@@ -6,9 +6,6 @@ use Rattle.laws.proofs.Signed.{bits-none, bits-some}
 use Rattle.judge.proofs.freed.Statement.{statement}
 use Rattle.judge.proofs.freed.Tie as tie
 
-add-result : tie.Need-add-result
-add-result c = search needs
-
 returns : tie.Need-returns
 returns c = record { stays = λ e. refl; moves = λ n. absurd (n (bits-none w8 (c .before .args .digit) (c .before .fits .digit) (c .if1 .taken))) }
 
@@ -16,4 +13,4 @@ returns-2 : tie.Need-returns-2
 returns-2 c = record { stays = λ e. absurd (bits-some w8 (c .before .args .digit) (c .if1 .left) e); moves = λ n. refl }
 
 pub freed-spec : {M : Type 1} → statement M
-freed-spec = tie.close (tie.spec add-result returns returns-2)
+freed-spec = tie.close (tie.spec (λ c. search needs) returns returns-2)

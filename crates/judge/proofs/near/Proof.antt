@@ -6,7 +6,7 @@ use lib.ListN.{length}
 use mir.Syntax.{w8}
 use mir.Facts.{toZ-ofZ}
 use denote.Ref.{now}
-use Rattle.meaning.specs.Refusals.{lowest}
+use Rattle.meaning.specs.Refusals.{Lowest}
 use Rattle.meaning.specs.Checking.{Crowded}
 use Rattle.judge.proofs.Tests.{said, denied}
 use Rattle.judge.proofs.Spaces.{Roomy, room-none, room-more, room-short, room-all}
@@ -29,7 +29,7 @@ crowds-requires : tie.Need-crowds-requires Inv-loop μ-loop
 crowds-requires c κs = search needs
 
 -- where a digit stands too near
-short : (c : tie.Then1 Inv-loop μ-loop) → let a = c .before .before .before .before .before .args in let l = c .before .before .before .before .loop in (a .w ≤ l .free) × lowest (Crowded (a .w) (now (a .digits))) (l .free - a .w)
+short : (c : tie.Then1 Inv-loop μ-loop) → let a = c .before .before .before .before .before .args in let l = c .before .before .before .before .loop in (a .w ≤ l .free) × Lowest (Crowded (a .w) (now (a .digits))) (l .free - a .w)
 short c =
     let a = c .before .before .before .before .before .args in
     let l = c .before .before .before .before .loop in

@@ -8,9 +8,6 @@ use Rattle.reader.proofs.Takes.{takes-inside, takes-fresh}
 use Rattle.reader.proofs.call.Statement.{statement}
 use Rattle.reader.proofs.call.Tie as tie
 
-pass-requires : tie.Need-pass-requires
-pass-requires c κs = search needs
-
 returns : tie.Need-returns
 returns c =
     let i = c .before .before in
@@ -18,9 +15,6 @@ returns c =
     let q = a .state in
     rw (toZ-ofZ {w = w8} {z = q .pending} (sfits-of (c .before .struct-told .given .1 .1 .0 .1))) at (c .pass .ensures)
     ∙ takes-inside (now (a .scalar)) (q .place) (q .width) (q .pending) (q .spot) (q .floor) (i .if1 .taken)
-
-fresh-requires : tie.Need-fresh-requires
-fresh-requires c κs = search needs
 
 returns-2 : tie.Need-returns-2
 returns-2 c =
@@ -31,4 +25,4 @@ returns-2 c =
     ∙ takes-fresh (now (a .scalar)) (q .place) (q .width) (q .pending) (q .spot) (q .floor) (i .if1 .left)
 
 pub call-spec : {M : Type 1} → statement M
-call-spec = tie.close (tie.spec pass-requires returns fresh-requires returns-2)
+call-spec = tie.close (tie.spec (λ c κs. search needs) returns (λ c κs. search needs) returns-2)

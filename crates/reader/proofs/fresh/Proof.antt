@@ -3,21 +3,15 @@ use mathlib.Core.Path.{_∙_}
 use borrow.Author.Needs.{needs}
 use denote.Ref.{now}
 use mir.Facts.{toZ-ofZ}
-use Rattle.width.proofs.Widths.{known-bits, known-lawful, known-width, known-bad}
+use Rattle.width.proofs.Widths.{known-bits, known-wide, known-lawful, known-bad}
 use Rattle.reader.proofs.Takes.{fresh-opened, fresh-none, fresh-over, fresh-bad}
 use Rattle.reader.proofs.fresh.Statement.{statement}
 use Rattle.reader.proofs.fresh.Tie as tie
 
-known-requires : tie.Need-known-requires
-known-requires c κs = search needs
-
-enum-known-w : tie.Need-enum-known-w
-enum-known-w c = search needs
-
 opening-requires : tie.Need-opening-requires
 opening-requires c κs =
     let k = c .before .before .before in
-    (known-width _ (k .known .ensures) (c .before .w .given .1), search needs)
+    (known-lawful _ (k .known .ensures) (c .before .w .given .1) .0, search needs)
 
 returns : tie.Need-returns
 returns c =
@@ -25,10 +19,7 @@ returns c =
     let a = k .before .before .before .before .args in
     let e = k .known .ensures in
     let g = c .before .before .w .given .1 in
-    rw (known-bits _ e g) at (c .opening .ensures) ∙ fresh-opened (now (a .scalar)) (a .place) (a .width) (a .pending) (a .spot) (a .floor) (k .before .before .if1 .taken) (k .before .if2 .taken) (known-lawful _ e g)
-
-enum-told : tie.Need-enum-told
-enum-told c = search needs
+    rw (known-bits _ e g) at (c .opening .ensures) ∙ fresh-opened (now (a .scalar)) (a .place) (a .width) (a .pending) (a .spot) (a .floor) (k .before .before .if1 .taken) (k .before .if2 .taken) (known-wide _ e g)
 
 returns-2 : tie.Need-returns-2
 returns-2 c =
@@ -50,4 +41,4 @@ returns-4 c =
     rw (toZ-ofZ (b .fits .pending)) (fresh-none (now (a .scalar)) (a .place) (a .width) (a .pending) (a .spot) (a .floor) (c .if1 .left))
 
 pub fresh-spec : {M : Type 1} → statement M
-fresh-spec = tie.close (tie.spec known-requires enum-known-w opening-requires returns enum-told returns-2 returns-3 returns-4)
+fresh-spec = tie.close (tie.spec (λ c κs. search needs) (λ c. search needs) opening-requires returns (λ c. search needs) returns-2 returns-3 returns-4)

@@ -39,18 +39,6 @@ found c =
     let o = c .before .before .before in
     looked (a .w .bits) (number (now (a .scalar))) (a .place - 1) (o .window .result) (omega arith) (seen o) (differ (c .before)) (c .look-up .ensures)
 
-sub-window : tie.Need-sub-window
-sub-window c = search needs
-
-bits-requires : tie.Need-bits-requires
-bits-requires c κs = search needs
-
-window-requires : tie.Need-window-requires
-window-requires c κs = search needs
-
-opens-requires : tie.Need-opens-requires
-opens-requires c κs = search needs
-
 look-up-requires : tie.Need-look-up-requires
 look-up-requires c κs =
     let a = c .before .before .before .before .before .args in
@@ -62,9 +50,6 @@ placed-requires c κs =
     let o = opened-at (a .w .bits) (number (now (a .scalar))) (a .place - 1) (omega arith) (differ (c .before)) .over in
     (omega arith, (omega arith, omega arith, omega (arith, found c .twos-is)))
 
-pass-requires : tie.Need-pass-requires
-pass-requires c κs = search needs
-
 returns : tie.Need-returns
 returns c =
     let k = c .before .before in
@@ -74,12 +59,6 @@ returns c =
     let above : suc (a .place - 1) ≡ a .place = omega (arith, s .pre .1) in
     let P = puts (a .place - 1) v above (found (k .before)) (k .placed .ensures) in
     opened-some (a .w .bits) (number (now (a .scalar))) (a .place - 1) (c .pass .ensures) (differ (k .before .before)) (toZ-ofZ {w = w8} (sfits-of (c .before .struct-told .given .1 .0 .1)) ∙ P .unit-is) (P .spot-is) (P .left-is)
-
-sub-pass : tie.Need-sub-pass
-sub-pass c = search needs
-
-pass-requires-2 : tie.Need-pass-requires-2
-pass-requires-2 c κs = search needs
 
 returns-2 : tie.Need-returns-2
 returns-2 c =
@@ -92,4 +71,4 @@ returns-2 c =
 pub opening-spec : {M : Type 1} → statement M
 opening-spec =
     tie.close
-    (tie.spec sub-window bits-requires window-requires opens-requires look-up-requires placed-requires pass-requires returns sub-pass pass-requires-2 returns-2)
+    (tie.spec (λ c. search needs) (λ c κs. search needs) (λ c κs. search needs) (λ c κs. search needs) look-up-requires placed-requires (λ c κs. search needs) returns (λ c. search needs) (λ c κs. search needs) returns-2)

@@ -7,17 +7,11 @@ use Rattle.reader.proofs.Takes.{takes-inside, takes-fresh}
 use Rattle.reader.proofs.step.Statement.{statement}
 use Rattle.reader.proofs.step.Tie as tie
 
-pass-requires : tie.Need-pass-requires
-pass-requires c κs = search needs
-
 returns : tie.Need-returns
 returns c =
     let k = c .before .before .before in
     let a = k .args in
     rw (toZ-ofZ (k .fits .pending)) at (c .pass .ensures) ∙ takes-inside (now (a .scalar)) (a .place) (a .width) (a .pending) (a .spot) (a .floor) (c .before .if1 .taken)
-
-fresh-requires : tie.Need-fresh-requires
-fresh-requires c κs = search needs
 
 returns-2 : tie.Need-returns-2
 returns-2 c =
@@ -26,4 +20,4 @@ returns-2 c =
     rw (toZ-ofZ (k .fits .pending)) at (c .fresh .ensures) ∙ takes-fresh (now (a .scalar)) (a .place) (a .width) (a .pending) (a .spot) (a .floor) (c .before .if1 .left)
 
 pub step-spec : {M : Type 1} → statement M
-step-spec = tie.close (tie.spec pass-requires returns fresh-requires returns-2)
+step-spec = tie.close (tie.spec (λ c κs. search needs) returns (λ c κs. search needs) returns-2)

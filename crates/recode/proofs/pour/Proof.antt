@@ -6,8 +6,8 @@ use lib.ListN.{length}
 use lib.Seq.{length-take-le, take-all}
 use denote.Ref.{now}
 use Rattle.laws.proofs.Choices.{true-false}
-use Rattle.stream.specs.Streams.{begun, Keeps}
-use Rattle.stream.proofs.Streams.{Sized, sized-start, lent-still}
+use Rattle.cutter.specs.Cuts.{begun, Keeps}
+use Rattle.stream.proofs.Framed.{Sized, sized-start, lent-still}
 use Rattle.recode.proofs.Pouring.{Pouring, pour-start, pour-moves, pour-more}
 use Rattle.recode.proofs.pour.Statement.{statement}
 use Rattle.recode.proofs.pour.Tie as tie
@@ -24,7 +24,7 @@ abbrev μ-loop : tie.MeasureT-loop
 moves : (c : tie.After-feed Inv-loop μ-loop)
     → let l = c .before .before .before .before .before .before .before .before .before in
     (l .loop .at < l .loop .at + c .feed .result .used) × (l .loop .at + c .feed .result .used ≤ length (now (l .before .before .before .before .before .before .args .piece)))
-moves c = let l = c .before .before .before .before .before .before .before .before .before in pour-moves (now (l .before .before .before .before .before .before .args .piece)) (l .loop .at) (c .before .before .before .before .before .before .before .before .loop-test .taken) (c .feed .ensures)
+moves c = pour-moves (c .before .before .before .before .before .before .before .before .before .loop .inv .1) (c .before .before .before .before .before .before .before .before .loop-test .taken) (c .feed .ensures)
 
 loop-holds : tie.Need-loop-holds Inv-loop μ-loop
 loop-holds c =
@@ -77,41 +77,11 @@ loop-again c =
         marks-length = k .1 .1 .1 .1 .1 .0 ∙ z .marks-length;
         out-length = k .1 .1 .1 .1 .1 .1 .0 ∙ z .out-length;
       },
-      pour-more (now (l .before .before .before .before .before .before .args .piece)) (l .loop .at) (w .before .before .before .before .before .before .before .before .loop-test .taken) (w .feed .ensures) (l .loop .inv .1),
+      pour-more (l .loop .inv .1) (w .before .before .before .before .before .before .before .before .loop-test .taken) (w .feed .ensures),
     )
-
-same-length : tie.Need-same-length Inv-loop μ-loop
-same-length c = c .before .before .loop .inv .0 .line-length
-
-same-length-2 : tie.Need-same-length-2 Inv-loop μ-loop
-same-length-2 c = c .before .before .loop .inv .0 .bytes-length
-
-same-length-3 : tie.Need-same-length-3 Inv-loop μ-loop
-same-length-3 c = c .before .before .loop .inv .0 .digits-length
-
-same-length-4 : tie.Need-same-length-4 Inv-loop μ-loop
-same-length-4 c = c .before .before .loop .inv .0 .marks-length
-
-same-length-5 : tie.Need-same-length-5 Inv-loop μ-loop
-same-length-5 c = c .before .before .loop .inv .0 .out-length
 
 returns : tie.Need-returns Inv-loop μ-loop
 returns c = record { within = c .before .before .loop .inv .1 .kept-within; keeps = λ e. absurd (true-false (sym e ∙ c .if1 .left)) }
-
-same-length-6 : tie.Need-same-length-6 Inv-loop μ-loop
-same-length-6 c = c .before .loop .inv .0 .line-length
-
-same-length-7 : tie.Need-same-length-7 Inv-loop μ-loop
-same-length-7 c = c .before .loop .inv .0 .bytes-length
-
-same-length-8 : tie.Need-same-length-8 Inv-loop μ-loop
-same-length-8 c = c .before .loop .inv .0 .digits-length
-
-same-length-9 : tie.Need-same-length-9 Inv-loop μ-loop
-same-length-9 c = c .before .loop .inv .0 .marks-length
-
-same-length-10 : tie.Need-same-length-10 Inv-loop μ-loop
-same-length-10 c = c .before .loop .inv .0 .out-length
 
 returns-2 : tie.Need-returns-2 Inv-loop μ-loop
 returns-2 c =
@@ -140,15 +110,15 @@ pour-spec =
     write-all-requires
     loop-less
     loop-again
-    same-length
-    same-length-2
-    same-length-3
-    same-length-4
-    same-length-5
+    (λ c. c .before .before .loop .inv .0 .line-length)
+    (λ c. c .before .before .loop .inv .0 .bytes-length)
+    (λ c. c .before .before .loop .inv .0 .digits-length)
+    (λ c. c .before .before .loop .inv .0 .marks-length)
+    (λ c. c .before .before .loop .inv .0 .out-length)
     returns
-    same-length-6
-    same-length-7
-    same-length-8
-    same-length-9
-    same-length-10
+    (λ c. c .before .loop .inv .0 .line-length)
+    (λ c. c .before .loop .inv .0 .bytes-length)
+    (λ c. c .before .loop .inv .0 .digits-length)
+    (λ c. c .before .loop .inv .0 .marks-length)
+    (λ c. c .before .loop .inv .0 .out-length)
     returns-2)

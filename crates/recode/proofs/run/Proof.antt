@@ -4,14 +4,13 @@ use Prim.Native.Nat.{_≤_}
 use native.Mathlib.Omega.{arith}
 use lib.ListN.{length}
 use denote.Ref.{now}
-use Rattle.stream.specs.Streams.{mostKept}
-use Rattle.stream.proofs.Streams.{Sized, sized-start, lent-still}
+use Rattle.stream.proofs.Framed.{Sized, sized-start, lent-still}
 use Rattle.recode.proofs.run.Statement.{statement}
 use Rattle.recode.proofs.run.Tie as tie
 
 abbrev Inv-loop : tie.InvT-loop
 Inv-loop input₀ line₀ bytes₀ digits₀ marks₀ out₀ turns₀ kept₀ goes₀ input line bytes digits marks out turns kept goes =
-    Sized line₀ bytes₀ digits₀ marks₀ out₀ line bytes digits marks out × (length input ≡ length input₀) × (kept ≤ mostKept)
+    Sized line₀ bytes₀ digits₀ marks₀ out₀ line bytes digits marks out × (length input ≡ length input₀) × (kept ≤ length line)
 
 abbrev μ-loop : tie.MeasureT-loop
 μ-loop input₀ line₀ bytes₀ digits₀ marks₀ out₀ turns₀ kept₀ goes₀ input line bytes digits marks out turns kept goes =
@@ -50,44 +49,8 @@ loop-again c =
       w .take .ensures .within,
     )
 
-same-length : tie.Need-same-length Inv-loop μ-loop
-same-length c = c .before .before .loop .inv .1
-
-same-length-2 : tie.Need-same-length-2 Inv-loop μ-loop
-same-length-2 c = c .before .before .loop .inv .0 .line-length
-
-same-length-3 : tie.Need-same-length-3 Inv-loop μ-loop
-same-length-3 c = c .before .before .loop .inv .0 .bytes-length
-
-same-length-4 : tie.Need-same-length-4 Inv-loop μ-loop
-same-length-4 c = c .before .before .loop .inv .0 .digits-length
-
-same-length-5 : tie.Need-same-length-5 Inv-loop μ-loop
-same-length-5 c = c .before .before .loop .inv .0 .marks-length
-
-same-length-6 : tie.Need-same-length-6 Inv-loop μ-loop
-same-length-6 c = c .before .before .loop .inv .0 .out-length
-
 returns : tie.Need-returns Inv-loop μ-loop
 returns c = tt
-
-same-length-7 : tie.Need-same-length-7 Inv-loop μ-loop
-same-length-7 c = c .before .loop .inv .1
-
-same-length-8 : tie.Need-same-length-8 Inv-loop μ-loop
-same-length-8 c = c .before .loop .inv .0 .line-length
-
-same-length-9 : tie.Need-same-length-9 Inv-loop μ-loop
-same-length-9 c = c .before .loop .inv .0 .bytes-length
-
-same-length-10 : tie.Need-same-length-10 Inv-loop μ-loop
-same-length-10 c = c .before .loop .inv .0 .digits-length
-
-same-length-11 : tie.Need-same-length-11 Inv-loop μ-loop
-same-length-11 c = c .before .loop .inv .0 .marks-length
-
-same-length-12 : tie.Need-same-length-12 Inv-loop μ-loop
-same-length-12 c = c .before .loop .inv .0 .out-length
 
 returns-2 : tie.Need-returns-2 Inv-loop μ-loop
 returns-2 c = tt
@@ -103,17 +66,17 @@ run-spec =
     sub-turns
     loop-less
     loop-again
-    same-length
-    same-length-2
-    same-length-3
-    same-length-4
-    same-length-5
-    same-length-6
+    (λ c. c .before .before .loop .inv .1)
+    (λ c. c .before .before .loop .inv .0 .line-length)
+    (λ c. c .before .before .loop .inv .0 .bytes-length)
+    (λ c. c .before .before .loop .inv .0 .digits-length)
+    (λ c. c .before .before .loop .inv .0 .marks-length)
+    (λ c. c .before .before .loop .inv .0 .out-length)
     returns
-    same-length-7
-    same-length-8
-    same-length-9
-    same-length-10
-    same-length-11
-    same-length-12
+    (λ c. c .before .loop .inv .1)
+    (λ c. c .before .loop .inv .0 .line-length)
+    (λ c. c .before .loop .inv .0 .bytes-length)
+    (λ c. c .before .loop .inv .0 .digits-length)
+    (λ c. c .before .loop .inv .0 .marks-length)
+    (λ c. c .before .loop .inv .0 .out-length)
     returns-2)

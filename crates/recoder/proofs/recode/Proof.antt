@@ -22,15 +22,6 @@ admitted c =
     let a = start c .args in
     subst (λ r. Admits (a .form) (a .width) (now (a .s)) (length (now (a .digits))) (length (now (a .marks))) r) (c .before .judged2 .given .1) (c .before .before .before .judge .ensures)
 
-judge-requires : tie.Need-judge-requires
-judge-requires c κs = search needs
-
-enum-known-judged : tie.Need-enum-known-judged
-enum-known-judged c = search needs
-
-enum-known-judged-2 : tie.Need-enum-known-judged-2
-enum-known-judged-2 c = search needs
-
 mul-places : tie.Need-mul-places
 mul-places c = omega (arith, admitted c .short)
 
@@ -65,12 +56,6 @@ returns c =
       refused = λ n. record { digits-are = refl; marks-are = refl; weight-is = refl; top-is = refl };
     }
 
-same-length : tie.Need-same-length
-same-length c = search needs
-
-same-length-2 : tie.Need-same-length-2
-same-length-2 c = search needs
-
 returns-2 : tie.Need-returns-2
 returns-2 c =
     let f = c .before .before .before in
@@ -93,4 +78,4 @@ returns-2 c =
 pub recode-spec : {M : Type 1} → statement M
 recode-spec =
     tie.close
-    (tie.spec judge-requires enum-known-judged enum-known-judged-2 mul-places add-places slice-relend-prefix-fill slice-aggregate-fill slice-relend-prefix-fill-2 slice-aggregate-fill-2 fill-requires returns same-length same-length-2 returns-2)
+    (tie.spec (λ c κs. search needs) (λ c. search needs) (λ c. search needs) mul-places add-places slice-relend-prefix-fill slice-aggregate-fill slice-relend-prefix-fill-2 slice-aggregate-fill-2 fill-requires returns (λ c. search needs) (λ c. search needs) returns-2)

@@ -6,24 +6,6 @@ use Rattle.rows.proofs.Packing.{lower-fits, lower-small, lowered}
 use Rattle.rows.proofs.entry.Statement.{statement}
 use Rattle.rows.proofs.entry.Tie as tie
 
-sub-there : tie.Need-sub-there
-sub-there c = search needs
-
-sub-there-2 : tie.Need-sub-there-2
-sub-there-2 c = search needs
-
-mul-there : tie.Need-mul-there
-mul-there c = search needs
-
-shr-there : tie.Need-shr-there
-shr-there c = search needs
-
-cast-result : tie.Need-cast-result
-cast-result c = search needs
-
-cast-result-2 : tie.Need-cast-result-2
-cast-result-2 c = search needs
-
 sub-result : tie.Need-sub-result
 sub-result c = lower-fits (byteAt (c .args .word) (c .args .column)) (omega arith)
 
@@ -34,4 +16,4 @@ returns : tie.Need-returns
 returns c = lowered (byteAt (c .args .word) (c .args .column)) (omega arith)
 
 pub entry-spec : {M : Type 1} → statement M
-entry-spec = tie.close (tie.spec sub-there sub-there-2 mul-there shr-there cast-result cast-result-2 sub-result cast-result-3 returns)
+entry-spec = tie.close (tie.spec (λ c. search needs) (λ c. search needs) (λ c. search needs) (λ c. search needs) (λ c. search needs) (λ c. search needs) sub-result cast-result-3 returns)

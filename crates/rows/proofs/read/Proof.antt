@@ -11,18 +11,6 @@ use Rattle.rows.proofs.Packing.{row-entry}
 use Rattle.rows.proofs.read.Statement.{statement}
 use Rattle.rows.proofs.read.Tie as tie
 
-units-row-requires : tie.Need-units-row-requires
-units-row-requires c κs = search needs
-
-twos-row-requires : tie.Need-twos-row-requires
-twos-row-requires c κs = search needs
-
-entry-requires : tie.Need-entry-requires
-entry-requires c κs = search needs
-
-entry-requires-2 : tie.Need-entry-requires-2
-entry-requires-2 c κs = search needs
-
 -- k as it is taken out, and as it is read from the machine
 taken : (c : tie.After-entry2) → c .entry2 .result ≡ twosOf (c .before .before .before .before .args .at)
 taken c = row-entry twosOf (c .before .before .before .before .args .at) _ (c .entry2 .result) (c .before .before .twos-row .ensures) (c .entry2 .ensures)
@@ -46,4 +34,4 @@ returns c =
     }
 
 pub read-spec : {M : Type 1} → statement M
-read-spec = tie.close (tie.spec units-row-requires twos-row-requires entry-requires entry-requires-2 cast-t8 returns)
+read-spec = tie.close (tie.spec (λ c κs. search needs) (λ c κs. search needs) (λ c κs. search needs) (λ c κs. search needs) cast-t8 returns)

@@ -4,15 +4,15 @@ use native.Mathlib.Omega.{arith}
 use borrow.Author.Count.{below-more}
 use borrow.Author.Tests.{not-true, not-false}
 use lib.ListN.{length, getD}
-use Rattle.meaning.specs.Running.{Good}
+use Rattle.meaning.specs.Walks.{Good}
 use Rattle.run.proofs.first_bad.Statement.{statement}
 use Rattle.run.proofs.first_bad.Tie as tie
 
 abbrev Inv-loop : tie.InvT-loop
-Inv-loop width words i₀ i = (i ≤ length words) × ((k : ℕ) → k < i → Good (width .bits) k (getD words k 0))
+Inv-loop count words i₀ i = (i ≤ length words) × ((k : ℕ) → k < i → Good count k (getD words k 0))
 
 abbrev μ-loop : tie.MeasureT-loop
-μ-loop width words i₀ i = length words - i
+μ-loop count words i₀ i = length words - i
 
 loop-holds : tie.Need-loop-holds Inv-loop μ-loop
 loop-holds c = (omega arith, λ k h. absurd (omega arith))

@@ -1,81 +1,61 @@
 -- `run::good` meets its contract: each return is the judgement of one step.
+use Rattle.tape.specs.Steps.{side}
 use Rattle.run.proofs.Words.{says, judged-double, judged-load, judged-late, judged-add, judged-early, judged-bad}
 use borrow.Author.Needs.{needs}
 use Rattle.run.proofs.good.Statement.{statement}
 use Rattle.run.proofs.good.Tie as tie
 
-decode-requires : tie.Need-decode-requires
-decode-requires c κs = search needs
-
-enum-told : tie.Need-enum-told
-enum-told c = search needs
-
-enum-known-m : tie.Need-enum-known-m
-enum-known-m c = search needs
-
-held-requires : tie.Need-held-requires
-held-requires c κs = search needs
-
-enum-known-m-2 : tie.Need-enum-known-m-2
-enum-known-m-2 c = search needs
-
-held-requires-2 : tie.Need-held-requires-2
-held-requires-2 c κs = search needs
-
-enum-told-2 : tie.Need-enum-told-2
-enum-told-2 c = search needs
-
 returns : tie.Need-returns
 returns c =
     let d = c .before .before in
     let a = d .before .args in
-    judged-double (a .width .bits) (a .index) (a .word) (says (a .word) (d .decode .ensures) (c .enum-told .given .1))
+    judged-double (a .count) (a .index) (a .word) (d .before .pre) (says (a .word) (d .decode .ensures) (c .enum-told .given .1))
 
 returns-2 : tie.Need-returns-2
 returns-2 c =
     let k = c .before .before .before in
     let d = k .before .before in
     let a = d .before .args in
-    judged-load (a .width .bits) (a .index) (a .word) (k .m .given .0 .0) (says (a .word) (d .decode .ensures) (k .m .given .1)) (c .before .if1 .taken) (c .held .ensures)
+    judged-load (a .count) (a .index) (a .word) (side (k .m .given .0 .0 .sign)) (k .m .given .0 .0 .entry) (says (a .word) (d .decode .ensures) (k .m .given .1)) (c .before .if1 .taken) (c .held .ensures)
 
 returns-3 : tie.Need-returns-3
 returns-3 c =
     let k = c .before .before in
     let d = k .before .before in
     let a = d .before .args in
-    judged-late (a .width .bits) (a .index) (a .word) (k .m .given .0 .0) (says (a .word) (d .decode .ensures) (k .m .given .1)) (c .if1 .left)
+    judged-late (a .count) (a .index) (a .word) (side (k .m .given .0 .0 .sign)) (k .m .given .0 .0 .entry) (says (a .word) (d .decode .ensures) (k .m .given .1)) (c .if1 .left)
 
 returns-4 : tie.Need-returns-4
 returns-4 c =
     let k = c .before .before .before in
     let d = k .before .before in
     let a = d .before .args in
-    judged-add (a .width .bits) (a .index) (a .word) (k .m2 .given .0 .0) (says (a .word) (d .decode .ensures) (k .m2 .given .1)) (c .before .if2 .taken) (c .held2 .ensures)
+    judged-add (a .count) (a .index) (a .word) (side (k .m2 .given .0 .0 .sign)) (k .m2 .given .0 .0 .entry) (says (a .word) (d .decode .ensures) (k .m2 .given .1)) (c .before .if2 .taken) (c .held2 .ensures)
 
 returns-5 : tie.Need-returns-5
 returns-5 c =
     let k = c .before .before in
     let d = k .before .before in
     let a = d .before .args in
-    judged-early (a .width .bits) (a .index) (a .word) (k .m2 .given .0 .0) (says (a .word) (d .decode .ensures) (k .m2 .given .1)) (c .if2 .left)
+    judged-early (a .count) (a .index) (a .word) (side (k .m2 .given .0 .0 .sign)) (k .m2 .given .0 .0 .entry) (says (a .word) (d .decode .ensures) (k .m2 .given .1)) (c .if2 .left)
 
 returns-6 : tie.Need-returns-6
 returns-6 c =
     let d = c .before .before in
     let a = d .before .args in
-    judged-bad (a .width .bits) (a .index) (a .word) (says (a .word) (d .decode .ensures) (c .enum-told2 .given .1))
+    judged-bad (a .count) (a .index) (a .word) (says (a .word) (d .decode .ensures) (c .enum-told2 .given .1))
 
 pub good-spec : {M : Type 1} → statement M
 good-spec =
     tie.close
     (tie.spec
-    decode-requires
-    enum-told
-    enum-known-m
-    held-requires
-    enum-known-m-2
-    held-requires-2
-    enum-told-2
+    (λ c κs. search needs)
+    (λ c. search needs)
+    (λ c. search needs)
+    (λ c κs. search needs)
+    (λ c. search needs)
+    (λ c κs. search needs)
+    (λ c. search needs)
     returns
     returns-2
     returns-3

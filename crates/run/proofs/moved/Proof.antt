@@ -1,55 +1,35 @@
 -- `run::moved` meets its contract, by the sign of the move.
 use mathlib.Core.Path.{sym, ap, _∙_}
-use Rattle.run.specs.Walks.{residues, signed, entryIn}
+use Prim.Native.Nat.{_+_, _%_}
+use Rattle.tape.specs.Steps.{side}
+use Rattle.run.specs.Walks.{tableOf}
+use Rattle.run.proofs.Moves.{less-is}
 use borrow.Author.Needs.{needs}
 use Rattle.run.proofs.moved.Statement.{statement}
 use Rattle.run.proofs.moved.Tie as tie
 
-cast-entry : tie.Need-cast-entry
-cast-entry c = search needs
-
-mul-multiple : tie.Need-mul-multiple
-mul-multiple c = search needs
-
-shared-slice-read-multiple : tie.Need-shared-slice-read-multiple
-shared-slice-read-multiple c = search needs
-
-enum-told : tie.Need-enum-told
-enum-told c = search needs
-
-plus-requires : tie.Need-plus-requires
-plus-requires c κs = search needs
-
-enum-told-2 : tie.Need-enum-told-2
-enum-told-2 c = search needs
-
-sub-plus : tie.Need-sub-plus
-sub-plus c = search needs
-
-plus-requires-2 : tie.Need-plus-requires-2
-plus-requires-2 c κs = search needs
-
 returns : tie.Need-returns
 returns c =
     let a = c .before .before .before .before .before .before .args in
-    c .plus .ensures ∙ sym (ap (λ s. signed (residues (a .modulus)) (a .x) s (entryIn (a .multiples .now) (a .step .entry))) (c .before .enum-told .given .1))
+    c .plus .ensures ∙ sym (ap (λ s. (a .x + tableOf (a .modulus) (a .multiples .now) (side s) (a .step .entry)) % a .modulus) (c .before .enum-told .given .1))
 
 returns-2 : tie.Need-returns-2
 returns-2 c =
     let a = c .before .before .before .before .before .before .args in
-    c .plus2 .ensures ∙ sym (ap (λ s. signed (residues (a .modulus)) (a .x) s (entryIn (a .multiples .now) (a .step .entry))) (c .before .enum-told2 .given .1))
+    c .plus2 .ensures ∙ less-is (a .modulus) (a .multiples .now) (a .x) (a .step .entry)
+    ∙ sym (ap (λ s. (a .x + tableOf (a .modulus) (a .multiples .now) (side s) (a .step .entry)) % a .modulus) (c .before .enum-told2 .given .1))
 
 pub moved-spec : {M : Type 1} → statement M
 moved-spec =
     tie.close
     (tie.spec
-    cast-entry
-    mul-multiple
-    shared-slice-read-multiple
-    enum-told
-    plus-requires
-    enum-told-2
-    sub-plus
-    plus-requires-2
+    (λ c. search needs)
+    (λ c. search needs)
+    (λ c. search needs)
+    (λ c. search needs)
+    (λ c κs. search needs)
+    (λ c. search needs)
+    (λ c. search needs)
+    (λ c κs. search needs)
     returns
     returns-2)

@@ -1,15 +1,16 @@
 -- `run::run` meets its contract: each return is one answer. Assumes nothing.
-use mathlib.Core.Path.{_≡_, ap, subst, _∙_}
+use mathlib.Core.Path.{_≡_, refl, ap, subst, _∙_}
 use mathlib.Core.List.{_++_}
-use Prim.Native.Nat.{_-_, _≤_}
+use Prim.Native.Nat.{ℕ, _-_, _<_, _≤_}
 use native.Mathlib.Omega.{arith}
-use lib.ListN.{length, drop}
-use lib.Pow.{pow-pos, pow-mono}
-use Rattle.meaning.specs.Running.{entries, multiplesOf}
-use Rattle.width.specs.Widths.{Lawful}
-use Rattle.width.proofs.Widths.{known-bits, known-lawful, known-width, known-bad}
+use lib.ListN.{length, getD, drop}
+use Rattle.meaning.specs.Digits.{largest, entries}
+use Rattle.meaning.specs.Walks.{Good}
+use Rattle.meaning.specs.Running.{multiplesOf}
+use Rattle.width.specs.Widths.{Wide}
+use Rattle.width.proofs.Widths.{known-largest, known-wide, known-lawful, known-bad, entries-some, width-fine}
 use Rattle.run.specs.Words.{Sifted}
-use Rattle.run.proofs.Answers.{refuses-width, refuses-modulus, refuses-long, refuses-room, refuses-bad, all-held, accepts}
+use Rattle.run.proofs.Refusals.{refuses, all-held, accepts}
 use borrow.Author.Needs.{needs}
 use Rattle.run.proofs.run.Statement.{statement}
 use Rattle.run.proofs.run.Tie as tie
@@ -18,92 +19,63 @@ use Rattle.run.proofs.run.Tie as tie
 abbrev start : tie.After-known2 → tie.Start
 start k = k .before .before .before .before .before
 
-bits : (k : tie.After-known2) → k .known2 .given .0 .0 .bits ≡ start k .args .width
-bits k = known-bits _ (k .before .before .known .ensures) (k .known2 .given .1)
-
-lawful : (k : tie.After-known2) → Lawful (start k .args .width)
-lawful k = known-lawful _ (k .before .before .known .ensures) (k .known2 .given .1)
-
-wide : (k : tie.After-known2) → Lawful (k .known2 .given .0 .0 .bits)
-wide k = known-width _ (k .before .before .known .ensures) (k .known2 .given .1)
+wide : (k : tie.After-known2) → Wide (start k .args .width)
+wide k = known-wide _ (k .before .before .known .ensures) (k .known2 .given .1)
 
 -- what the calls found, at the byte itself: how many multiples there are, the words judged, the multiples stored
-count-is : (n : tie.After-entries) → n .entries .result ≡ entries (start (n .before .before .before .before) .args .width)
-count-is n = n .entries .ensures ∙ ap entries (bits (n .before .before .before .before))
+count-is : (n : tie.After-entries) → n .entries .result ≡ entries (largest (start (n .before .before .before .before) .args .width))
+count-is n = let k = n .before .before .before .before in n .entries .ensures ∙ ap entries (known-largest _ (k .before .before .known .ensures) (k .known2 .given .1))
 
-room : (f : tie.After-first-bad) → entries (start (f .before .before .before .before .before .before) .args .width) ≤ length (start (f .before .before .before .before .before .before) .args .multiples .now)
-room f = omega (arith, count-is (f .before .before), f .before .if3 .left)
+few : (n : tie.After-entries) → (1 ≤ n .entries .result) × (n .entries .result ≤ 64)
+few n =
+    let k = n .before .before .before .before in
+    let (a, b) = entries-some (known-lawful _ (k .before .before .known .ensures) (k .known2 .given .1)) in
+    (omega (arith, n .entries .ensures), omega (arith, n .entries .ensures))
 
-sifted : (f : tie.After-first-bad) → Sifted (start (f .before .before .before .before .before .before) .args .width) (start (f .before .before .before .before .before .before) .args .tape .now) (f .first-bad .result)
+sifted : (f : tie.After-first-bad) → let a = start (f .before .before .before .before .before .before) .args in Sifted (entries (largest (a .width))) (a .tape .now) (f .first-bad .result)
 sifted f =
     let k = f .before .before .before .before .before .before in
-    subst (λ b. Sifted b (start k .args .tape .now) (f .first-bad .result)) (bits k) (f .first-bad .ensures)
+    subst (λ n. Sifted n (start k .args .tape .now) (f .first-bad .result)) (count-is (f .before .before)) (f .first-bad .ensures)
 
-stored-are : (t : tie.After-store)
-    → t .store .last .1 .1 .1 .0 ≡ multiplesOf (start (t .before .before .before .before .before .before .before .before .before) .args .width) (start (t .before .before .before .before .before .before .before .before .before) .args .modulus) (start (t .before .before .before .before .before .before .before .before .before) .args .base) ++ drop (entries (start (t .before .before .before .before .before .before .before .before .before) .args .width)) (start (t .before .before .before .before .before .before .before .before .before) .args .multiples .now)
+-- all words are good where none is bad
+good : (f : tie.After-first-bad) → let a = start (f .before .before .before .before .before .before) .args in length (a .tape .now) ≤ f .first-bad .result → (i : ℕ) → i < length (a .tape .now) → Good (entries (largest (a .width))) i (getD (a .tape .now) i 0)
+good f done i h = sifted f .before i (omega arith)
+
+stored-are : (t : tie.After-store) → let a = start (t .before .before .before .before .before .before .before .before .before) .args in
+    t .store .last .1 .1 .1 .0 ≡ multiplesOf (entries (largest (a .width))) (a .modulus) (a .base) ++ drop (entries (largest (a .width))) (a .multiples .now)
 stored-are t =
-    let k = t .before .before .before .before .before .before .before .before .before in
-    let a = start k .args in
-    t .store .ensures ∙ ap (λ b. multiplesOf b (a .modulus) (a .base) ++ drop (entries b) (a .multiples .now)) (bits k)
-
-known-requires : tie.Need-known-requires
-known-requires c κs = search needs
-
-enum-known-known : tie.Need-enum-known-known
-enum-known-known c = search needs
-
-enum-told : tie.Need-enum-told
-enum-told c = search needs
-
-refused-requires : tie.Need-refused-requires
-refused-requires c κs = search needs
+    let n = t .before .before .before .before .before in
+    let a = start (n .before .before .before .before) .args in
+    t .store .ensures ∙ ap (λ j. multiplesOf j (a .modulus) (a .base) ++ drop j (a .multiples .now)) (count-is n)
 
 returns : tie.Need-returns
 returns c =
     let k = c .before .before .before in
     let a = k .before .before .before .args in
-    refuses-width (a .width) (a .tape .now) (a .modulus) (a .base) (a .multiples .now) (c .refused .ensures) (known-bad _ (k .known .ensures) (c .before .enum-told .given .1))
-
-refused-requires-2 : tie.Need-refused-requires-2
-refused-requires-2 c κs = search needs
+    refuses (a .width) (a .tape .now) (a .modulus) (a .base) (a .multiples .now) 0 0 (c .refused .ensures) (known-bad _ (k .known .ensures) (c .before .enum-told .given .1), refl)
 
 returns-2 : tie.Need-returns-2
 returns-2 c =
     let k = c .before .before .before in
     let a = start k .args in
-    refuses-modulus (a .width) (a .tape .now) (a .modulus) (a .base) (a .multiples .now) (lawful k) (c .refused2 .ensures) (c .before .if1 .taken)
-
-refused-requires-3 : tie.Need-refused-requires-3
-refused-requires-3 c κs = search needs
+    refuses (a .width) (a .tape .now) (a .modulus) (a .base) (a .multiples .now) 1 0 (c .refused2 .ensures) (width-fine (wide k), (c .before .if1 .taken, refl))
 
 returns-3 : tie.Need-returns-3
 returns-3 c =
     let k = c .before .before .before .before in
     let a = start k .args in
-    refuses-long (a .width) (a .tape .now) (a .modulus) (a .base) (a .multiples .now) (lawful k) (c .refused3 .ensures) (c .before .before .if1 .left) (c .before .if2 .taken)
-
-entries-requires : tie.Need-entries-requires
-entries-requires c κs = wide (c .before .before .before)
-
-refused-requires-4 : tie.Need-refused-requires-4
-refused-requires-4 c κs = search needs
+    refuses (a .width) (a .tape .now) (a .modulus) (a .base) (a .multiples .now) 2 0 (c .refused3 .ensures) (width-fine (wide k), (c .before .before .if1 .left, (c .before .if2 .taken, refl)))
 
 returns-4 : tie.Need-returns-4
 returns-4 c =
     let n = c .before .before in
     let k = n .before .before .before .before in
     let a = start k .args in
-    refuses-room (a .width) (a .tape .now) (a .modulus) (a .base) (a .multiples .now) (lawful k) (n .before .before .if1 .left) (n .before .if2 .left) (c .refused4 .ensures)
-    (omega (arith, count-is n, c .before .if3 .taken))
+    refuses (a .width) (a .tape .now) (a .modulus) (a .base) (a .multiples .now) 3 0 (c .refused4 .ensures)
+    (width-fine (wide k), (n .before .before .if1 .left, ((λ l. omega (arith, n .before .if2 .left)), (omega (arith, count-is n, c .before .if3 .taken), refl))))
 
 first-bad-requires : tie.Need-first-bad-requires
-first-bad-requires c κs = wide (c .before .before .before .before .before)
-
-cast-refused : tie.Need-cast-refused
-cast-refused c = search needs
-
-refused-requires-5 : tie.Need-refused-requires-5
-refused-requires-5 c κs = search needs
+first-bad-requires c κs = few (c .before) .0
 
 returns-5 : tie.Need-returns-5
 returns-5 c =
@@ -111,14 +83,14 @@ returns-5 c =
     let n = f .before .before in
     let k = n .before .before .before .before in
     let a = start k .args in
-    refuses-bad (a .width) (a .tape .now) (a .modulus) (a .base) (a .multiples .now) (lawful k) (n .before .before .if1 .left) (n .before .if2 .left) (room f) (f .first-bad .result) (sifted f)
-    (c .refused5 .ensures) (c .before .if4 .taken)
+    let h = c .before .if4 .taken in
+    refuses (a .width) (a .tape .now) (a .modulus) (a .base) (a .multiples .now) 4 (f .first-bad .result) (c .refused5 .ensures)
+    (width-fine (wide k), (n .before .before .if1 .left, ((λ l. omega (arith, n .before .if2 .left)), ((λ l. omega (arith, count-is n, f .before .if3 .left)), (record { within = h; bad = sifted f .here h }, λ q l b. b .bad (sifted f .before q l))))))
 
 store-requires : tie.Need-store-requires
 store-requires c κs =
     let n = c .before .before .before .before in
-    let k = n .before .before .before .before in
-    (wide k, (omega (arith, n .before .before .if1 .left), omega (arith, n .entries .ensures, c .before .before .before .if3 .left)))
+    (omega (arith, n .before .before .if1 .left), c .before .before .before .if3 .left)
 
 reach-requires : tie.Need-reach-requires
 reach-requires c κs =
@@ -128,23 +100,15 @@ reach-requires c κs =
     let k = n .before .before .before .before in
     let a = start k .args in (
       (omega (arith, n .before .before .if1 .left), n .before .if2 .left),
-      all-held (a .width) (a .tape .now) (a .modulus) (a .base) (a .multiples .now) (lawful k) (n .before .before .if1 .left) (n .before .if2 .left) (room f) (f .first-bad .result)
-          (sifted f) (t .before .before .if4 .left) (stored-are t),
+      all-held (a .width) (a .tape .now) (a .modulus) (a .base) (a .multiples .now) (wide k) (n .before .before .if1 .left) (n .before .if2 .left)
+          (omega (arith, count-is n, f .before .if3 .left)) (good f (t .before .before .if4 .left)) (stored-are t),
     )
 
 sub-cost : tie.Need-sub-cost
-sub-cost c =
-    let n = c .before .before .before .before .before .before .before .before .before in
-    omega (arith, count-is n, pow-pos (start (n .before .before .before .before) .args .width - 2))
+sub-cost c = few (c .before .before .before .before .before .before .before .before .before) .0
 
 cast-cost : tie.Need-cast-cost
-cast-cost c =
-    let n = c .before .before .before .before .before .before .before .before .before in
-    let k = n .before .before .before .before in
-    omega (arith, count-is n, pow-mono {i = start k .args .width - 2} {j = 6} (omega (arith, lawful k .1)))
-
-same-length : tie.Need-same-length
-same-length c = search needs
+cast-cost c = omega (arith, few (c .before .before .before .before .before .before .before .before .before) .1)
 
 returns-6 : tie.Need-returns-6
 returns-6 c =
@@ -153,32 +117,32 @@ returns-6 c =
     let n = f .before .before in
     let k = n .before .before .before .before in
     let a = start k .args in
-    accepts (a .width) (a .tape .now) (a .modulus) (a .base) (a .multiples .now) (lawful k) (n .before .before .if1 .left) (n .before .if2 .left) (room f) (f .first-bad .result)
-    (sifted f) (t .before .before .if4 .left) (stored-are t) (c .reach .ensures) (ap (λ x. x - 1) (count-is n))
+    accepts (a .width) (a .tape .now) (a .modulus) (a .base) (a .multiples .now) (wide k) (n .before .before .if1 .left) (n .before .if2 .left)
+    (omega (arith, count-is n, f .before .if3 .left)) (good f (t .before .before .if4 .left)) (stored-are t) (c .reach .ensures) (ap (λ x. x - 1) (count-is n))
 
 pub run-spec : {M : Type 1} → statement M
 run-spec =
     tie.close
     (tie.spec
-    known-requires
-    enum-known-known
-    enum-told
-    refused-requires
+    (λ c κs. search needs)
+    (λ c. search needs)
+    (λ c. search needs)
+    (λ c κs. search needs)
     returns
-    refused-requires-2
+    (λ c κs. search needs)
     returns-2
-    refused-requires-3
+    (λ c κs. search needs)
     returns-3
-    entries-requires
-    refused-requires-4
+    (λ c κs. search needs)
+    (λ c κs. search needs)
     returns-4
     first-bad-requires
-    cast-refused
-    refused-requires-5
+    (λ c. search needs)
+    (λ c κs. search needs)
     returns-5
     store-requires
     reach-requires
     sub-cost
     cast-cost
-    same-length
+    (λ c. search needs)
     returns-6)

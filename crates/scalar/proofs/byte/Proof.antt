@@ -6,18 +6,6 @@ use Rattle.scalar.proofs.Bytes.{Bytes, byte-at, byte-past}
 use Rattle.scalar.proofs.byte.Statement.{statement}
 use Rattle.scalar.proofs.byte.Tie as tie
 
-sub-at : tie.Need-sub-at
-sub-at c = search needs
-
-sub-at-2 : tie.Need-sub-at-2
-sub-at-2 c = search needs
-
-shared-slice-read-wide : tie.Need-shared-slice-read-wide
-shared-slice-read-wide c = search needs
-
-wide-requires : tie.Need-wide-requires
-wide-requires c κs = search needs
-
 returns : tie.Need-returns
 returns c =
     let a = c .before .before .before .before .args in
@@ -31,4 +19,4 @@ returns-2 c =
 
 pub byte-spec : {M : Type 1} → statement M
 byte-spec =
-    tie.close (tie.spec sub-at sub-at-2 shared-slice-read-wide wide-requires returns returns-2)
+    tie.close (tie.spec (λ c. search needs) (λ c. search needs) (λ c. search needs) (λ c κs. search needs) returns returns-2)

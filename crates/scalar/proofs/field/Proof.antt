@@ -12,18 +12,6 @@ use Rattle.scalar.proofs.Fields.{field-is}
 use Rattle.scalar.proofs.field.Statement.{statement}
 use Rattle.scalar.proofs.field.Tie as tie
 
-pair-requires : tie.Need-pair-requires
-pair-requires c κs = search needs
-
-cast-result : tie.Need-cast-result
-cast-result c = search needs
-
-shr-result : tie.Need-shr-result
-shr-result c = search needs
-
-shl-result : tie.Need-shl-result
-shl-result c = search needs
-
 -- the bits are cut off by their power of two
 power : (c : tie.After-pair) → 1 * 2 ^ (c .before .before .args .count) % 2 ^ 32 ≡ 2 ^ (c .before .before .args .count)
 power c = let k = c .before .before .args .count in shl-exact 1 k 32 (lit< tt) (omega arith) ∙ one-mul (2 ^ k)
@@ -40,4 +28,4 @@ returns c =
 pub field-spec : {M : Type 1} → statement M
 field-spec =
     tie.close
-    (tie.spec pair-requires cast-result shr-result shl-result rem-result returns)
+    (tie.spec (λ c κs. search needs) (λ c. search needs) (λ c. search needs) (λ c. search needs) rem-result returns)

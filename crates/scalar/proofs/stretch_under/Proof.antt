@@ -6,21 +6,6 @@ use Rattle.scalar.proofs.Fields.{stretch-under-is}
 use Rattle.scalar.proofs.stretch_under.Statement.{statement}
 use Rattle.scalar.proofs.stretch_under.Tie as tie
 
-under-requires : tie.Need-under-requires
-under-requires c κs = search needs
-
-stretch-requires : tie.Need-stretch-requires
-stretch-requires c κs = search needs
-
-add-result : tie.Need-add-result
-add-result c = search needs
-
-sub-result : tie.Need-sub-result
-sub-result c = search needs
-
-shl-result : tie.Need-shl-result
-shl-result c = search needs
-
 returns : tie.Need-returns
 returns c =
     let u = c .before in
@@ -28,4 +13,4 @@ returns c =
     rw (c .stretch .ensures) (stretch-under-is (number (now (a .s))) (a .i) (a .w) (u .under .result) (u .before .before .pre .0) (u .under .ensures))
 
 pub stretch-under-spec : {M : Type 1} → statement M
-stretch-under-spec = tie.close (tie.spec under-requires stretch-requires add-result sub-result shl-result returns)
+stretch-under-spec = tie.close (tie.spec (λ c κs. search needs) (λ c κs. search needs) (λ c. search needs) (λ c. search needs) (λ c. search needs) returns)

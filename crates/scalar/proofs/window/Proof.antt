@@ -8,31 +8,10 @@ use Rattle.scalar.proofs.Fields.{window-over, window-under}
 use Rattle.scalar.proofs.window.Statement.{statement}
 use Rattle.scalar.proofs.window.Tie as tie
 
-add-field : tie.Need-add-field
-add-field c = search needs
-
-field-requires : tie.Need-field-requires
-field-requires c κs = search needs
-
 returns : tie.Need-returns
 returns c =
     let a = c .before .before .before .args in
     c .field .ensures ∙ window-over (number (now (a .s))) (a .i) (a .w) (c .before .if1 .taken)
-
-cast-there : tie.Need-cast-there
-cast-there c = search needs
-
-add-field-2 : tie.Need-add-field-2
-add-field-2 c = search needs
-
-field-requires-2 : tie.Need-field-requires-2
-field-requires-2 c κs = search needs
-
-sub-result : tie.Need-sub-result
-sub-result c = search needs
-
-shl-result : tie.Need-shl-result
-shl-result c = search needs
 
 returns-2 : tie.Need-returns-2
 returns-2 c =
@@ -43,12 +22,12 @@ pub window-spec : {M : Type 1} → statement M
 window-spec =
     tie.close
     (tie.spec
-    add-field
-    field-requires
+    (λ c. search needs)
+    (λ c κs. search needs)
     returns
-    cast-there
-    add-field-2
-    field-requires-2
-    sub-result
-    shl-result
+    (λ c. search needs)
+    (λ c. search needs)
+    (λ c κs. search needs)
+    (λ c. search needs)
+    (λ c. search needs)
     returns-2)

@@ -1,13 +1,14 @@
 -- `search::least` meets its contract: the places left fall at each call, and each turn tries one digit more. Assumes nothing.
 use mathlib.Core.Path.{_≡_, subst, sym, ap, _∙_}
 use mathlib.Core.Logic.{⊎-elim}
-use Prim.Native.Nat.{ℕ, suc, _+_, _-_, _≤_, _<_, min}
+use Prim.Native.Nat.{ℕ, suc, _+_, _-_, _^_, _≤_, _<_, min}
 use borrow.Author.Needs.{needs}
 use borrow.Fn.Kinds.{In}
 use borrow.Fn.PlainCycle.{Measures, is, falls, and}
 use native.Mathlib.Omega.{arith}
 use lib.Pow.{pow-pos, pow-mono}
 use Rattle.meaning.specs.Searching.{searchPlaces}
+use Rattle.width.proofs.Widths.{digits-whole}
 use Rattle.search.specs.Least.{mostNumber}
 use Rattle.search.proofs.Order.{left-most}
 use Rattle.search.proofs.Lightest.{lightest-of, least-empty, least-none}
@@ -58,11 +59,14 @@ abbrev μ-loop : least-lts.MeasureT-loop
 next : (t : ℕ) (c : least-lts.Else1 (claims t) (least-at t) least.Post Inv-loop μ-loop) → c .before .args .places ≡ suc (c .before .args .places - 1)
 next t c = omega arith
 
--- the digits are few
+-- how many digits there are, and that they are few
+digits-are : (t : ℕ) (c : least-lts.After-digits (claims t) (least-at t) least.Post Inv-loop μ-loop) → c .digits .result ≡ 2 ^ (c .before .before .args .width .bits - 1) + 1
+digits-are t c = c .digits .ensures .0 ∙ digits-whole (c .before .before .pre .1 .0)
+
 few : (t : ℕ) (c : least-lts.After-digits (claims t) (least-at t) least.Post Inv-loop μ-loop) → c .digits .result ≤ mostNumber + 2
 few t c =
     let s = c .before .before in
-    omega (arith, c .digits .ensures .0, pow-mono {i = s .args .width .bits - 1} {j = 7} (omega arith))
+    omega (arith, digits-are t c, pow-mono {i = s .args .width .bits - 1} {j = 7} (omega (arith, s .pre .1 .0 .0)))
 
 returns : (t : ℕ) → least-lts.Need-returns (claims t) (least-at t) least.Post Inv-loop μ-loop
 returns t c = least-empty _ (c .before .if1 .taken) (c .if2 .taken)
@@ -110,13 +114,13 @@ loop-again t c =
     let f = l .before .before in
     let a = f .before .args in
     let left = c .before .left-over .ensures in
-    let digits = l .before .digits .ensures .0 in
+    let digits = digits-are t (l .before) in
     let best = Tried (a .width .bits) (a .places) (a .size) (l .loop .i + 1) in (
       ⊎-elim
           (λ (even, above, one, less, e).
           subst best (sym (e ∙ less .ensures ∙ ap (λ n. min (l .loop .best) (above .result + n)) (one .ensures)))
-          (tried-even _ _ (omega arith) (next t f) (l .loop .i) _ left (f .before .pre .1 .0) (omega arith) (even .taken) (l .loop .inv .0) (above .ensures)))
-          (λ (odd, e). subst best (sym e) (tried-odd _ _ (omega arith) (next t f) (l .loop .i) _ left (odd .left) (l .loop .inv .0)))
+          (tried-even _ _ (omega (arith, f .before .pre .1 .0 .0)) (next t f) (l .loop .i) _ left (f .before .pre .1 .0 .0) (omega arith) (even .taken) (l .loop .inv .0) (above .ensures)))
+          (λ (odd, e). subst best (sym e) (tried-odd _ _ (omega (arith, f .before .pre .1 .0 .0)) (next t f) (l .loop .i) _ left (odd .left) (l .loop .inv .0)))
           (c .if3 .came),
       omega arith,
     )
@@ -125,7 +129,7 @@ returns-3 : (t : ℕ) → least-lts.Need-returns-3 (claims t) (least-at t) least
 returns-3 t c =
     let f = c .before .before in
     let a = f .before .before .args in
-    tried-all _ _ (omega arith) (next t (f .before)) (omega (arith, f .digits .ensures .0, pow-pos (a .width .bits - 1))) (c .before .loop .inv .0)
+    tried-all _ _ (omega (arith, f .before .before .pre .1 .0 .0)) (next t (f .before)) (omega (arith, digits-are t f, pow-pos (a .width .bits - 1))) (c .before .loop .inv .0)
 
 pub +least-spec : {M : Type 1} → statement M
 +least-spec = close μ-least λ t. least-lts.spec (claims t)

@@ -8,17 +8,8 @@ use Rattle.search.proofs.left_over.Tie as tie
 returns : tie.Need-returns
 returns c = omega (arith, left-even (c .before .args .size) (c .before .args .i) (omega arith))
 
-sub-result : tie.Need-sub-result
-sub-result c = search needs
-
-add-result : tie.Need-add-result
-add-result c = search needs
-
 returns-2 : tie.Need-returns-2
 returns-2 c = omega (arith, left-even (c .before .before .args .size) (c .before .before .args .i) (omega arith))
-
-sub-result-2 : tie.Need-sub-result-2
-sub-result-2 c = search needs
 
 returns-3 : tie.Need-returns-3
 returns-3 c = omega (arith, left-odd (c .before .before .before .args .size) (c .before .before .before .args .i) (omega arith))
@@ -28,4 +19,4 @@ returns-4 c = omega (arith, left-odd (c .before .before .before .args .size) (c 
 
 pub left-over-spec : {M : Type 1} → statement M
 left-over-spec =
-    tie.close (tie.spec returns sub-result add-result returns-2 sub-result-2 returns-3 returns-4)
+    tie.close (tie.spec returns (λ c. search needs) (λ c. search needs) returns-2 (λ c. search needs) returns-3 returns-4)

@@ -21,9 +21,6 @@ returns c = minus-abs w8 w16 (lit< tt) (lit< tt) _ (c .before .fits .d)
 cast-result-3 : tie.Need-cast-result-3
 cast-result-3 c = plain-good w8 w16 (lit< tt) (lit< tt) _ (c .before .fits .d) (c .if1 .left)
 
-returns-2 : tie.Need-returns-2
-returns-2 c = search needs
-
 pub magnitude-spec : {M : Type 1} → statement M
 magnitude-spec =
-    tie.close (tie.spec cast-result sub-result cast-result-2 returns cast-result-3 returns-2)
+    tie.close (tie.spec cast-result sub-result cast-result-2 returns cast-result-3 (λ c. search needs))

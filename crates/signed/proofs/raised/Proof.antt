@@ -10,9 +10,6 @@ use Rattle.signed.proofs.raised.Tie as tie
 cast-result : tie.Need-cast-result
 cast-result c = cast-fits w8 w32 (lit< tt) (lit< tt) _ (c .fits .d)
 
-cast-result-2 : tie.Need-cast-result-2
-cast-result-2 c = search needs
-
 add-result : tie.Need-add-result
 add-result c = sum-fits (c .args .level) (c .pre .0) (c .pre .1) _ (c .fits .d)
 
@@ -23,4 +20,4 @@ returns : tie.Need-returns
 returns c = sum-raised (c .args .level) (c .pre .0) (c .pre .1) _ (c .fits .d)
 
 pub raised-spec : {M : Type 1} → statement M
-raised-spec = tie.close (tie.spec cast-result cast-result-2 add-result cast-result-3 returns)
+raised-spec = tie.close (tie.spec cast-result (λ c. search needs) add-result cast-result-3 returns)

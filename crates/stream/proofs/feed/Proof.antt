@@ -1,25 +1,31 @@
 -- `stream::feed` meets its contract. The loop's invariant: what is used of the piece is taken in. Assumes nothing.
-use mathlib.Core.Path.{refl, ap, _∙_}
+use mathlib.Core.Path.{_∙_}
 use mathlib.Core.Logic.{inl, inr}
-use Prim.Native.Nat.{_-_}
+use Prim.Native.Nat.{_+_, _-_, _<_, _≤_}
 use native.Mathlib.Omega.{arith}
-use native.Mathlib.Numerals.{add-one}
-use lib.ListN.{length, take, length-drop}
-use lib.Seq.{take-suc}
+use lib.ListN.{length, length-drop}
 use borrow.Author.Tests.{leb-true, leb-false}
 use denote.Ref.{now}
-use Rattle.lines.specs.Answered.{mostAnswer}
-use Rattle.stream.proofs.Streams.{Sized, sized-start, lent-still, Feeding, taken-none, moved}
+use Rattle.meaning.specs.Frames.{Answer}
+use Rattle.frames.specs.Answered.{mostAnswer}
+use Rattle.stream.proofs.Streams.{Feeding, feed-none, feed-more, step-moves, moved}
+use Rattle.stream.proofs.Framed.{Sized, sized-start, lent-still}
 use Rattle.stream.proofs.feed.Statement.{statement}
 use Rattle.stream.proofs.feed.Tie as tie
 
 abbrev Inv-loop : tie.InvT-loop
 Inv-loop piece line₀ kept bytes₀ digits₀ marks₀ out₀ room used₀ kept₀ filled₀ line bytes digits marks out used kept' filled =
-    Sized line₀ bytes₀ digits₀ marks₀ out₀ line bytes digits marks out × Feeding piece line₀ kept out₀ line out used kept' filled
+    Sized line₀ bytes₀ digits₀ marks₀ out₀ line bytes digits marks out × Feeding Answer piece line₀ kept out₀ line out used kept' filled
 
 abbrev μ-loop : tie.MeasureT-loop
 μ-loop piece line₀ kept bytes₀ digits₀ marks₀ out₀ room used₀ kept₀ filled₀ line bytes digits marks out used kept' filled =
     length piece - used
+
+-- a step moves on, and not past the end
+moves : (c : tie.After-step Inv-loop μ-loop)
+    → let l = c .before .before .before .before .before .before .before .before .before in
+    (l .loop .used < l .loop .used + c .step .result .used) × (l .loop .used + c .step .result .used ≤ length (now (l .before .before .before .before .before .before .args .piece)))
+moves c = step-moves Answer (c .before .before .before .before .before .before .before .before .before .loop .inv .1) (c .before .before .before .before .before .before .before .before .loop-test .taken) (c .step .ensures)
 
 sub-room : tie.Need-sub-room Inv-loop μ-loop
 sub-room c = omega (arith, c .before .before .before .before .before .pre .1 .answer-fits)
@@ -27,19 +33,17 @@ sub-room c = omega (arith, c .before .before .before .before .before .pre .1 .an
 loop-holds : tie.Need-loop-holds Inv-loop μ-loop
 loop-holds c =
     let s = c .before .before .before .before .before in
-    let a = s .args in (
-      sized-start (now (a .line)) (now (a .bytes)) (now (a .digits)) (now (a .marks)) (now (a .out)),
-      record {
-        used-within = omega arith;
-        kept-within = s .pre .0 .0;
-        filled-within = omega arith;
-        start = λ _. refl;
-        taken = λ p k. taken-none p (now (a .line)) (a .kept) (now (a .out)) k;
-      },
-    )
+    let a = s .args in
+    (sized-start (now (a .line)) (now (a .bytes)) (now (a .digits)) (now (a .marks)) (now (a .out)), feed-none Answer (now (a .piece)) (now (a .line)) (a .kept) (now (a .out)) (s .pre .0 .0))
 
-shared-slice-read-step : tie.Need-shared-slice-read-step Inv-loop μ-loop
-shared-slice-read-step c = omega arith
+sub-step : tie.Need-sub-step Inv-loop μ-loop
+sub-step c = omega arith
+
+part-step-start : tie.Need-part-step-start Inv-loop μ-loop
+part-step-start c = omega arith
+
+part-step-end : tie.Need-part-step-end Inv-loop μ-loop
+part-step-end c = omega arith
 
 step-requires : tie.Need-step-requires Inv-loop μ-loop
 step-requires c κs =
@@ -62,21 +66,17 @@ step-requires c κs =
     )
 
 add-used : tie.Need-add-used Inv-loop μ-loop
-add-used c = omega (arith, c .before .before .before .before .before .before .before .before .before .before .before .before .before .before .before .before .before .loop-test .taken)
+add-used c = omega (arith, moves (c .before .before .before .before .before .before .before .before .before .before) .1)
 
 loop-less : tie.Need-loop-less Inv-loop μ-loop
-loop-less c = omega (arith, c .before .before .before .before .before .before .before .before .before .before .before .before .before .before .before .before .before .loop-test .taken)
+loop-less c = omega (arith, moves (c .before .before .before .before .before .before .before .before .before .before))
 
 loop-again : tie.Need-loop-again Inv-loop μ-loop
 loop-again c =
-    let w = c .before .before .before .before .before .before .before .before .before in
+    let w = c .before .before .before .before .before .before .before .before .before .before in
     let l = w .before .before .before .before .before .before .before .before .before in
-    let a = l .before .before .before .before .before .before .args in
-    let less = w .before .before .before .before .before .before .before .before .loop-test .taken in
     let z = l .loop .inv .0 in
-    let i = l .loop .inv .1 in
-    let k = w .step .kept in
-    let more = ap (λ n. take n (now (a .piece))) (add-one (l .loop .used)) ∙ take-suc (now (a .piece)) (l .loop .used) 0 less in (
+    let k = w .step .kept in (
       record {
         line-length = k .1 .0 ∙ z .line-length;
         bytes-length = k .1 .1 .0 ∙ z .bytes-length;
@@ -84,29 +84,8 @@ loop-again c =
         marks-length = k .1 .1 .1 .1 .0 ∙ z .marks-length;
         out-length = k .1 .1 .1 .1 .1 .0 ∙ z .out-length;
       },
-      record {
-        used-within = omega arith;
-        kept-within = w .step .ensures .kept-within;
-        filled-within = w .step .ensures .filled-within;
-        start = λ e. absurd (omega arith);
-        taken = λ p q. rw more (w .step .ensures .taken p (take (l .loop .used) (now (a .piece))) (now (a .out)) (i .taken p q));
-      },
+      feed-more Answer (l .loop .inv .1) (w .before .before .before .before .before .before .before .before .loop-test .taken) (w .step .ensures),
     )
-
-same-length : tie.Need-same-length Inv-loop μ-loop
-same-length c = c .before .before .loop .inv .0 .line-length
-
-same-length-2 : tie.Need-same-length-2 Inv-loop μ-loop
-same-length-2 c = c .before .before .loop .inv .0 .bytes-length
-
-same-length-3 : tie.Need-same-length-3 Inv-loop μ-loop
-same-length-3 c = c .before .before .loop .inv .0 .digits-length
-
-same-length-4 : tie.Need-same-length-4 Inv-loop μ-loop
-same-length-4 c = c .before .before .loop .inv .0 .marks-length
-
-same-length-5 : tie.Need-same-length-5 Inv-loop μ-loop
-same-length-5 c = c .before .before .loop .inv .0 .out-length
 
 returns : tie.Need-returns Inv-loop μ-loop
 returns c =
@@ -122,21 +101,6 @@ returns c =
       stops = inr (omega (arith, full, l .loop .inv .0 .out-length, s .pre .1 .answer-fits));
       taken = i .taken;
     }
-
-same-length-6 : tie.Need-same-length-6 Inv-loop μ-loop
-same-length-6 c = c .before .loop .inv .0 .line-length
-
-same-length-7 : tie.Need-same-length-7 Inv-loop μ-loop
-same-length-7 c = c .before .loop .inv .0 .bytes-length
-
-same-length-8 : tie.Need-same-length-8 Inv-loop μ-loop
-same-length-8 c = c .before .loop .inv .0 .digits-length
-
-same-length-9 : tie.Need-same-length-9 Inv-loop μ-loop
-same-length-9 c = c .before .loop .inv .0 .marks-length
-
-same-length-10 : tie.Need-same-length-10 Inv-loop μ-loop
-same-length-10 c = c .before .loop .inv .0 .out-length
 
 returns-2 : tie.Need-returns-2 Inv-loop μ-loop
 returns-2 c =
@@ -158,20 +122,22 @@ feed-spec =
     μ-loop
     sub-room
     loop-holds
-    shared-slice-read-step
+    sub-step
+    part-step-start
+    part-step-end
     step-requires
     add-used
     loop-less
     loop-again
-    same-length
-    same-length-2
-    same-length-3
-    same-length-4
-    same-length-5
+    (λ c. c .before .before .loop .inv .0 .line-length)
+    (λ c. c .before .before .loop .inv .0 .bytes-length)
+    (λ c. c .before .before .loop .inv .0 .digits-length)
+    (λ c. c .before .before .loop .inv .0 .marks-length)
+    (λ c. c .before .before .loop .inv .0 .out-length)
     returns
-    same-length-6
-    same-length-7
-    same-length-8
-    same-length-9
-    same-length-10
+    (λ c. c .before .loop .inv .0 .line-length)
+    (λ c. c .before .loop .inv .0 .bytes-length)
+    (λ c. c .before .loop .inv .0 .digits-length)
+    (λ c. c .before .loop .inv .0 .marks-length)
+    (λ c. c .before .loop .inv .0 .out-length)
     returns-2)

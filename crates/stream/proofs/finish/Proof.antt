@@ -3,34 +3,22 @@ use mathlib.Core.Path.{sym, subst}
 use native.Mathlib.Omega.{arith}
 use lib.Seq.{length-take-le}
 use denote.Ref.{now}
-use Rattle.stream.specs.Streams.{Keeps}
+use Rattle.meaning.specs.Frames.{Answer}
+use Rattle.cutter.specs.Cuts.{Keeps}
 use Rattle.stream.proofs.Streams.{last-none, last-some}
+use Rattle.stream.proofs.Framed.{answer-kept}
 use borrow.Author.Needs.{needs}
 use Rattle.stream.proofs.finish.Statement.{statement}
 use Rattle.stream.proofs.finish.Tie as tie
 
 returns : tie.Need-returns
 returns c =
-    let a = c .before .before .before .before .before .args in
-    record { within = omega arith; answers = λ p k. last-none p (now (a .line)) (subst (Keeps p (now (a .line))) (c .if1 .taken) k) }
+    let s = c .before .before .before .before .before in
+    let line = now (s .args .line) in
+    record { within = omega arith; answers = λ p k. last-none Answer p line (omega (arith, s .pre .0 .1)) (subst (Keeps p line) (c .if1 .taken) k) }
 
 slice-aggregate-answer : tie.Need-slice-aggregate-answer
 slice-aggregate-answer c = sym (length-take-le _ _ (omega arith))
-
-answer-requires : tie.Need-answer-requires
-answer-requires c κs = search needs
-
-same-length : tie.Need-same-length
-same-length c = search needs
-
-same-length-2 : tie.Need-same-length-2
-same-length-2 c = search needs
-
-same-length-3 : tie.Need-same-length-3
-same-length-3 c = search needs
-
-same-length-4 : tie.Need-same-length-4
-same-length-4 c = search needs
 
 returns-2 : tie.Need-returns-2
 returns-2 c =
@@ -39,7 +27,7 @@ returns-2 c =
     let F = w .answer .ensures .enough (s .pre .1) in
     record {
       within = F .within;
-      answers = λ p k. last-some p (now (s .args .line)) (s .args .kept) k (w .before .before .before .before .before .before .if1 .left) _ (F .answer);
+      answers = λ p k. last-some Answer p (now (s .args .line)) (s .args .kept) k (w .before .before .before .before .before .before .if1 .left) _ (answer-kept k (s .pre .0 .1) _ (F .answer));
     }
 
 pub finish-spec : {M : Type 1} → statement M
@@ -48,9 +36,9 @@ finish-spec =
     (tie.spec
     returns
     slice-aggregate-answer
-    answer-requires
-    same-length
-    same-length-2
-    same-length-3
-    same-length-4
+    (λ c κs. search needs)
+    (λ c. search needs)
+    (λ c. search needs)
+    (λ c. search needs)
+    (λ c. search needs)
     returns-2)

@@ -2,7 +2,7 @@
 use mathlib.Core.Path.{refl}
 use Prim.Native.Nat.{_%_}
 use native.Mathlib.Omega.{arith}
-use Rattle.tape.proofs.Steps.{step-is, bad-double, bad-code}
+use Rattle.walk.proofs.Words.{step-is, bad-double, bad-code}
 use Rattle.tape.proofs.decode.Statement.{statement}
 use Rattle.tape.proofs.decode.Tie as tie
 

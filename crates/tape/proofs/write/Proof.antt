@@ -1,7 +1,7 @@
 -- `tape::write` meets its contract. The loop's invariant: the words of the places from i on are laid. Assumes nothing.
 use mathlib.Core.Path.{_≡_, refl, sym, ap, _∙_}
 use mathlib.Core.Logic.{_≢_}
-use mathlib.Core.List.{_∷_, _++_}
+use mathlib.Core.List.{[], _∷_, _++_}
 use Prim.Native.Nat.{ℕ, _-_, _<_, _≤_}
 use native.Mathlib.Omega.{arith}
 use lib.IntN.{pos}
@@ -10,11 +10,11 @@ use lib.Seq.{length-sets, drop-set-lt}
 use mir.Syntax.{w8}
 use mir.Val.{toZ, ofZ}
 use mir.Facts.{toZ-ofZ}
-use Rattle.meaning.specs.Taping.{double, adds, tapeOf}
-use Rattle.tape.specs.declared.Step.the-variants.{Load}
-use Rattle.tape.specs.Steps.{wordOf, moveOf}
-use Rattle.tape.proofs.Steps.{move-fits}
-use Rattle.tape.proofs.Lengths.{tape-some, AtTop, at-top}
+use Rattle.meaning.specs.Words.{double, load, add, wordOf}
+use Rattle.meaning.specs.Taping.{moves, tapeOf}
+use Rattle.walk.proofs.Lengths.{tape-some, AtTop, at-top}
+use Rattle.tape.specs.Steps.{Moves}
+use Rattle.tape.proofs.Steps.{move-fits, load-is}
 use Rattle.tape.proofs.Writes.{Laid, laid-none, laid-load, laid-only, laid-after, laid-next, laid-down, laid-room, laid-all}
 use Rattle.tape.proofs.write.Statement.{statement}
 use Rattle.tape.proofs.write.Tie as tie
@@ -34,8 +34,8 @@ room : (s : tie.Start Inv-loop μ-loop) (x : ℕ) → length (tapeOf (s .args .d
 room s x = rw length-set (s .pre .1)
 
 -- the load's move is found from the digit's bits
-moved : (c : tie.After-move-of Inv-loop μ-loop) → c .move-of .result ≡ moveOf (getD (c .before .before .before .before .args .digits .now) (c .before .before .before .before .args .high - 1) (pos 0))
-moved c = c .move-of .ensures ∙ ap moveOf (toZ-ofZ {w = w8} (record { sfits = c .before .move-of-arg .given }))
+moved : (c : tie.After-move-of Inv-loop μ-loop) → Moves (getD (c .before .before .before .before .args .digits .now) (c .before .before .before .before .args .high - 1) (pos 0)) (c .move-of .result)
+moved c = rw (toZ-ofZ {w = w8} (record { sfits = c .before .move-of-arg .given })) at (c .move-of .ensures)
 
 returns : tie.Need-returns Inv-loop μ-loop
 returns c = laid-none (c .before .before .args .digits .now) (c .before .before .args .words .now) (omega arith)
@@ -51,9 +51,7 @@ move-of-requires c κs = λ e.
     top-is (c .before .before .before) (c .before .if1 .left) .some (sym (toZ-ofZ {w = w8} (record { sfits = c .move-of-arg .given })) ∙ e)
 
 encode-requires : tie.Need-encode-requires Inv-loop μ-loop
-encode-requires c κs =
-    let a = c .before .before .before .before .args in
-    rw (moved c) (move-fits (getD (a .digits .now) (a .high - 1) (pos 0)) (c .before .move-of-arg .given))
+encode-requires c κs = move-fits (moved c) (c .before .move-of-arg .given)
 
 slice-write-words : tie.Need-slice-write-words Inv-loop μ-loop
 slice-write-words c =
@@ -61,8 +59,10 @@ slice-write-words c =
     omega (arith, s .pre .1, tape-some (s .args .digits .now) (omega (arith, s .pre .0, c .before .before .before .if1 .left)))
 
 -- the first word is the digit's load
-first : (c : tie.After-encode Inv-loop μ-loop) → let s = c .before .before .before .before .before in c .encode .result ≡ wordOf (Load (moveOf (getD (s .args .digits .now) (s .args .high - 1) (pos 0))))
-first c = c .encode .ensures ∙ ap (λ m. wordOf (Load m)) (moved (c .before))
+first : (c : tie.After-encode Inv-loop μ-loop) → let s = c .before .before .before .before .before in moves load (getD (s .args .digits .now) (s .args .high - 1) (pos 0)) ≡ c .encode .result ∷ []
+first c =
+    let s = c .before .before .before .before .before in
+    load-is (moved (c .before)) (top-is s (c .before .before .before .if1 .left) .some) ∙ ap (λ x. x ∷ []) (sym (c .encode .ensures))
 
 same-length : tie.Need-same-length Inv-loop μ-loop
 same-length c = length-set (c .before .before .before .before .before .before .args .words .now) 0 _
@@ -70,14 +70,14 @@ same-length c = length-set (c .before .before .before .before .before .before .a
 returns-2 : tie.Need-returns-2 Inv-loop μ-loop
 returns-2 c =
     let s = c .before .before .before .before .before .before in
-    ap (set (s .args .words .now) 0) (first (c .before)) ∙ laid-only (s .args .digits .now) (s .args .words .now) (s .pre .1) (s .args .high - 1) _ (omega arith) refl (c .if2 .taken)
+    laid-only (s .args .digits .now) (s .args .words .now) (s .pre .1) (s .args .high - 1) _ (omega arith) (first (c .before)) (c .if2 .taken)
 
 loop-holds : tie.Need-loop-holds Inv-loop μ-loop
 loop-holds c =
     let s = c .before .before .before .before .before .before in (
       omega arith,
       laid-after (s .args .digits .now) (s .args .words .now) (s .pre .1) (c .before .encode .result)
-          (rw (first (c .before)) (laid-load (s .args .digits .now) (s .args .words .now) (s .pre .1) (s .args .high - 1) _ (omega arith) refl)),
+          (laid-load (s .args .digits .now) (s .args .words .now) (s .pre .1) (s .args .high - 1) _ (omega arith) (first (c .before))),
     )
 
 sub-i-2 : tie.Need-sub-i-2 Inv-loop μ-loop
@@ -121,7 +121,7 @@ same-length-2 : tie.Need-same-length-2 Inv-loop μ-loop
 same-length-2 c =
     let l = c .before .before .before .before .before .before .loop in
     let a = c .before .before .before .before .before .before .before .before .before .before .before .before .before .args in
-    ap length (c .before .before .lowest .ensures) ∙ length-sets (l .words) (l .at) (double ∷ adds (toZ w8 (ofZ w8 (getD (a .digits .now) 0 (pos 0)))))
+    ap length (c .before .before .lowest .ensures) ∙ length-sets (l .words) (l .at) (wordOf double ∷ moves add (toZ w8 (ofZ w8 (getD (a .digits .now) 0 (pos 0)))))
     ∙ l .inv .1 .long ∙ length-set (a .words .now) 0 _
 
 returns-3 : tie.Need-returns-3 Inv-loop μ-loop

@@ -9,14 +9,5 @@ use Rattle.walkthrough.proofs.run.Tie as tie
 slice-aggregate-run : tie.Need-slice-aggregate-run
 slice-aggregate-run c = sym (length-take-le _ _ (omega arith))
 
-run-requires : tie.Need-run-requires
-run-requires c κs = search needs
-
-same-length : tie.Need-same-length
-same-length c = search needs
-
-returns : tie.Need-returns
-returns c = search needs
-
 pub run-spec : {M : Type 1} → statement M
-run-spec = tie.close (tie.spec slice-aggregate-run run-requires same-length returns)
+run-spec = tie.close (tie.spec slice-aggregate-run (λ c κs. search needs) (λ c. search needs) (λ c. search needs))

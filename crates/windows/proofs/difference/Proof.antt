@@ -13,20 +13,11 @@ use Rattle.windows.proofs.difference.Tie as tie
 small : (c : tie.Then1) → let a = c .before .args in a .b - a .a < 128
 small c = omega arith
 
-sub-size : tie.Need-sub-size
-sub-size c = search needs
-
-cast-size : tie.Need-cast-size
-cast-size c = search needs
-
 sub-result : tie.Need-sub-result
 sub-result c = negated-fits w8 _ (small c)
 
 returns : tie.Need-returns
 returns c = let a = c .before .args in negated-back w8 (a .b - a .a) (small c) ∙ negated (a .a) (a .b) (omega arith)
-
-cast-result : tie.Need-cast-result
-cast-result c = search needs
 
 returns-2 : tie.Need-returns-2
 returns-2 c =
@@ -35,4 +26,4 @@ returns-2 c =
     plain-is w8 (a .a - a .b) l ∙ plain-sub (a .a) (a .b) (omega arith)
 
 pub difference-spec : {M : Type 1} → statement M
-difference-spec = tie.close (tie.spec sub-size cast-size sub-result returns cast-result returns-2)
+difference-spec = tie.close (tie.spec (λ c. search needs) (λ c. search needs) sub-result returns (λ c. search needs) returns-2)

@@ -11,9 +11,6 @@ use Rattle.table.proofs.Entries.{within, unit-of, twos-of}
 use Rattle.windows.proofs.look_up.Statement.{statement}
 use Rattle.windows.proofs.look_up.Tie as tie
 
-table-start-requires : tie.Need-table-start-requires
-table-start-requires c κs = search needs
-
 -- the entry is one of the table's
 under : (c : tie.After-table-start) → tableStart (c .before .args .w .bits) + c .before .args .s < tableLength
 under c = within (c .before .args .w .bits) (c .before .args .s) (c .before .pre .0) (c .before .pre .1)
@@ -39,4 +36,4 @@ returns c =
     }
 
 pub look-up-spec : {M : Type 1} → statement M
-look-up-spec = tie.close (tie.spec table-start-requires add-read read-requires returns)
+look-up-spec = tie.close (tie.spec (λ c κs. search needs) add-read read-requires returns)

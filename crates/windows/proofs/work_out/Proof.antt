@@ -24,17 +24,8 @@ narrow c = pow-mono {i = c .args .w .bits + 1} {j = 9} (omega arith)
 found : (c : tie.Start) → Worked (c .args .w .bits) (c .args .s) (c .args .less) (c .pre .0) (c .pre .1 .0) (c .pre .1 .1 .0) (c .pre .1 .1 .1)
 found c = worked-out (c .args .w .bits) (c .args .s) (c .args .less) (c .pre .0) (c .pre .1 .0) (c .pre .1 .1 .0) (c .pre .1 .1 .1)
 
-bits-requires : tie.Need-bits-requires
-bits-requires c κs = search needs
-
-shl-full : tie.Need-shl-full
-shl-full c = search needs
-
 add-half : tie.Need-add-half
 add-half c = record { fits = omega (arith, narrow (c .before)) }
-
-sub-half : tie.Need-sub-half
-sub-half c = search needs
 
 shr-difference : tie.Need-shr-difference
 shr-difference c = found (c .before) .few
@@ -64,4 +55,4 @@ returns c =
     found s .is _ (toZ-ofZ (sfits-of (c .difference .ok)) ∙ d)
 
 pub work-out-spec : {M : Type 1} → statement M
-work-out-spec = tie.close (tie.spec bits-requires shl-full add-half sub-half shr-difference rem-difference sub-difference shr-difference-2 difference-requires cast-t12 returns)
+work-out-spec = tie.close (tie.spec (λ c κs. search needs) (λ c. search needs) add-half (λ c. search needs) shr-difference rem-difference sub-difference shr-difference-2 difference-requires cast-t12 returns)

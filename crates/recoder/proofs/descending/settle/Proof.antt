@@ -91,12 +91,6 @@ stored c =
     let r = p .placed .result in
     c .put .ensures .0 ∙ ap (set (now (start (p .before .before .before .before) .args .digits)) (r .spot)) (toZ-ofZ {w = w8} {z = r .unit} (sfits-of (c .before .struct-told .given .1 .0 .1)))
 
-bits-requires : tie.Need-bits-requires
-bits-requires c κs = search needs
-
-cast-tie : tie.Need-cast-tie
-cast-tie c = search needs
-
 add-tie : tie.Need-add-tie
 add-tie c = record { fits = omega (arith, few (c .before .before .before), c .bits .ensures) }
 
@@ -108,15 +102,6 @@ returns c =
     let p = c .before .before .before .before .pre in
     let e = c .before .bits .ensures in
     (settled-none (p .1 .1 .1 .1 .1) (λ i f h t n. absurd (c .if1 .taken (omega arith))), p .1 .1 .1 .1 .0)
-
-bits-requires-2 : tie.Need-bits-requires-2
-bits-requires-2 c κs = search needs
-
-window-requires : tie.Need-window-requires
-window-requires c κs = search needs
-
-turns-requires : tie.Need-turns-requires
-turns-requires c κs = search needs
 
 work-out-requires : tie.Need-work-out-requires
 work-out-requires c κs =
@@ -161,9 +146,6 @@ put-requires-2 c κs =
 same-length : tie.Need-same-length
 same-length c = search needs
 
-same-length-2 : tie.Need-same-length-2
-same-length-2 c = search needs
-
 returns-2 : tie.Need-returns-2
 returns-2 c =
     let q = c .before .before .before in
@@ -197,4 +179,4 @@ returns-3 c =
 pub settle-spec : {M : Type 1} → statement M
 settle-spec =
     tie.close
-    (tie.spec bits-requires cast-tie add-tie add-if1 returns bits-requires-2 window-requires turns-requires work-out-requires placed-requires put-requires put-requires-2 same-length same-length-2 returns-2 returns-3)
+    (tie.spec (λ c κs. search needs) (λ c. search needs) add-tie add-if1 returns (λ c κs. search needs) (λ c κs. search needs) (λ c κs. search needs) work-out-requires placed-requires put-requires put-requires-2 same-length (λ c. search needs) returns-2 returns-3)

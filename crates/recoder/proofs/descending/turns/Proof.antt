@@ -7,15 +7,6 @@ use borrow.Author.Tests.{eqb-true, eqb-false}
 use Rattle.recoder.proofs.descending.turns.Statement.{statement}
 use Rattle.recoder.proofs.descending.turns.Tie as tie
 
-opens-requires : tie.Need-opens-requires
-opens-requires c κs = search needs
-
-bits-requires : tie.Need-bits-requires
-bits-requires c κs = search needs
-
-shr-result : tie.Need-shr-result
-shr-result c = search needs
-
 returns : tie.Need-returns
 returns c =
     let o = c .before .before in
@@ -29,4 +20,4 @@ returns-2 c =
     record { yes = λ h. absurd (true-false (sym h ∙ c .if1 .left)); no = λ h k. absurd (k (o .opens .ensures .no h)) }
 
 pub turns-spec : {M : Type 1} → statement M
-turns-spec = tie.close (tie.spec opens-requires bits-requires shr-result returns returns-2)
+turns-spec = tie.close (tie.spec (λ c κs. search needs) (λ c κs. search needs) (λ c. search needs) returns returns-2)

@@ -9,21 +9,6 @@ use Rattle.recoder.proofs.Stretches.{shl-one}
 use Rattle.recoder.proofs.descending.window.Statement.{statement}
 use Rattle.recoder.proofs.descending.window.Tie as tie
 
-bits-requires : tie.Need-bits-requires
-bits-requires c κs = search needs
-
-add-span : tie.Need-add-span
-add-span c = search needs
-
-shr-result : tie.Need-shr-result
-shr-result c = search needs
-
-cast-result : tie.Need-cast-result
-cast-result c = search needs
-
-shl-result : tie.Need-shl-result
-shl-result c = search needs
-
 rem-result : tie.Need-rem-result
 rem-result c = omega (arith, shl-one (c .bits .result + 1) (omega arith), pow-pos (c .bits .result + 1))
 
@@ -40,4 +25,4 @@ cast-result-2 c =
     record { fits = omega (arith, returns c, mod-lt (a .x / 2 ^ a .at) (pow-pos (a .w .bits + 1)), pow-mono {i = a .w .bits + 1} {j = 9} (omega arith)) }
 
 pub window-spec : {M : Type 1} → statement M
-window-spec = tie.close (tie.spec bits-requires add-span shr-result cast-result shl-result rem-result cast-result-2 returns)
+window-spec = tie.close (tie.spec (λ c κs. search needs) (λ c. search needs) (λ c. search needs) (λ c. search needs) (λ c. search needs) rem-result cast-result-2 returns)

@@ -38,18 +38,6 @@ few b =
     let s = start b in
     omega (arith, b .bits .ensures, s .pre .0, s .pre .1 .0, b .before .lowest .ensures, trailing-le (bitCount (now (s .args .s))) (number (now (s .args .s))))
 
-clear-requires : tie.Need-clear-requires
-clear-requires c κs = search needs
-
-lowest-requires : tie.Need-lowest-requires
-lowest-requires c κs = search needs
-
-bits-requires : tie.Need-bits-requires
-bits-requires c κs = search needs
-
-cast-over : tie.Need-cast-over
-cast-over c = search needs
-
 add-over : tie.Need-add-over
 add-over c = record { fits = omega (arith, few c) }
 
@@ -94,12 +82,6 @@ sweep-requires-2 c κs =
     let l = zeros b .0 in
     (s .pre .0, ((omega (arith, settled .fewer, settled .same-length, swept .fewer, swept .same-length), omega (arith, settled .same-length, swept .same-length, l, s .pre .1 .0)), (marked, settled .clear)))
 
-same-length : tie.Need-same-length
-same-length c = search needs
-
-same-length-2 : tie.Need-same-length-2
-same-length-2 c = search needs
-
 returns : tie.Need-returns
 returns c =
     let p = c .before .before .before in
@@ -123,4 +105,4 @@ returns c =
     (turned (a .turn) w N (bitCount (now (a .s))) t (p .sweep2 .last .1 .1 .1 .1 .0) (s .pre .0 .0) (number-lt (now (a .s)) (λ i. bytes .shared-slice-known .given i .fits)) (b .before .lowest .ensures) whole, marked)
 
 pub write-spec : {M : Type 1} → statement M
-write-spec = tie.close (tie.spec clear-requires lowest-requires bits-requires cast-over add-over over-requires sweep-requires settle-requires sweep-requires-2 same-length same-length-2 returns)
+write-spec = tie.close (tie.spec (λ c κs. search needs) (λ c κs. search needs) (λ c κs. search needs) (λ c. search needs) add-over over-requires sweep-requires settle-requires sweep-requires-2 (λ c. search needs) (λ c. search needs) returns)

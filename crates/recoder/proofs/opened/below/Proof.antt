@@ -8,9 +8,6 @@ use Rattle.recoder.proofs.Stretches.{shl-one}
 use Rattle.recoder.proofs.opened.below.Statement.{statement}
 use Rattle.recoder.proofs.opened.below.Tie as tie
 
-shl-result : tie.Need-shl-result
-shl-result c = search needs
-
 rem-result : tie.Need-rem-result
 rem-result c = omega (arith, shl-one (c .args .at) (c .pre), pow-pos (c .args .at))
 
@@ -18,4 +15,4 @@ returns : tie.Need-returns
 returns c = ap (λ t. c .args .opens % t) (shl-one (c .args .at) (c .pre))
 
 pub below-spec : {M : Type 1} → statement M
-below-spec = tie.close (tie.spec shl-result rem-result returns)
+below-spec = tie.close (tie.spec (λ c. search needs) rem-result returns)

@@ -10,17 +10,8 @@ use Rattle.recoder.proofs.Stretches.{shl-one}
 use Rattle.recoder.proofs.opened.places.Statement.{statement}
 use Rattle.recoder.proofs.opened.places.Tie as tie
 
-shr-result : tie.Need-shr-result
-shr-result c = search needs
-
-shl-result : tie.Need-shl-result
-shl-result c = search needs
-
 rem-result : tie.Need-rem-result
 rem-result c = omega (arith, shl-one (c .args .count) (omega arith), pow-pos (c .args .count))
-
-shl-result-2 : tie.Need-shl-result-2
-shl-result-2 c = search needs
 
 returns : tie.Need-returns
 returns c =
@@ -29,4 +20,4 @@ returns c =
     ap (λ t. d % t * 2 ^ a .tail % 2 ^ 64) (shl-one (a .count) (omega arith)) ∙ shl-exact (a .count) (a .tail) 64 (mod-lt d (pow-pos (a .count))) (omega arith)
 
 pub places-spec : {M : Type 1} → statement M
-places-spec = tie.close (tie.spec shr-result shl-result rem-result shl-result-2 returns)
+places-spec = tie.close (tie.spec (λ c. search needs) (λ c. search needs) rem-result (λ c. search needs) returns)

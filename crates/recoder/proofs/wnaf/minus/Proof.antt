@@ -5,9 +5,6 @@ use Rattle.laws.proofs.Signed.{negated-fits, negated-back}
 use Rattle.recoder.proofs.wnaf.minus.Statement.{statement}
 use Rattle.recoder.proofs.wnaf.minus.Tie as tie
 
-cast-result : tie.Need-cast-result
-cast-result c = search needs
-
 sub-result : tie.Need-sub-result
 sub-result c = negated-fits w8 (c .args .size) (c .pre)
 
@@ -15,4 +12,4 @@ returns : tie.Need-returns
 returns c = negated-back w8 (c .args .size) (c .pre)
 
 pub minus-spec : {M : Type 1} → statement M
-minus-spec = tie.close (tie.spec cast-result sub-result returns)
+minus-spec = tie.close (tie.spec (λ c. search needs) sub-result returns)

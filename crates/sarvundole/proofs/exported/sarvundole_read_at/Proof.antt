@@ -6,14 +6,8 @@ use Rattle.sarvundole.proofs.Plain.{read}
 use Rattle.sarvundole.proofs.exported.sarvundole_read_at.Statement.{statement}
 use Rattle.sarvundole.proofs.exported.sarvundole_read_at.Tie as tie
 
-read-at-requires : tie.Need-read-at-requires
-read-at-requires c κs = search needs
-
-told-requires : tie.Need-told-requires
-told-requires c κs = search needs
-
 returns : tie.Need-returns
-returns c = rw (toZ-ofZ {w = w8} (sfits-of (c .struct-told .given .1 .0 .1))) (read (c .before .before .read-at .ensures) (c .before .told .ensures))
+returns c = rw (toZ-ofZ {w = w8} (sfits-of (c .struct-told .given .1 .0 .1))) (read (c .before .before .read-at .ensures) (c .before .plain .ensures))
 
 pub sarvundole-read-at-spec : {M : Type 1} → statement M
-sarvundole-read-at-spec = tie.close (tie.spec read-at-requires told-requires returns)
+sarvundole-read-at-spec = tie.close (tie.spec (λ c κs. search needs) (λ c κs. search needs) returns)

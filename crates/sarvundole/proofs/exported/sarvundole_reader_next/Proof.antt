@@ -17,32 +17,20 @@ called c =
     let b = c .before .before in
     rw (toZ-ofZ {w = w8} {z = b .state .result .pending} (sfits-of (c .before .struct-told .given .1 .1 .0 .1))) at (c .step .ensures)
 
-state-requires : tie.Need-state-requires
-state-requires c κs = search needs
-
-step-requires : tie.Need-step-requires
-step-requires c κs = search needs
-
-moved-requires : tie.Need-moved-requires
-moved-requires c κs = search needs
-
 kept-requires : tie.Need-kept-requires
 kept-requires c κs =
     let b = c .before .before .before in
     let a = b .before .before .args in
     subst Small (sym (c .moved .ensures ∙ ap (moved (b .state .result)) (called (c .before)))) (moves-small (now (a .scalar)) (b .state .result) (b .state .ensures .1))
 
-told-requires : tie.Need-told-requires
-told-requires c κs = search needs
-
 returns : tie.Need-returns
 returns c =
     let k = c .before .before in
     let m = k .before in
     rw (toZ-ofZ {w = w8} (sfits-of (c .struct-told2 .given .1 .0 .1)))
-    (stepped (m .before .before .before .state .ensures .0) (called (m .before)) (k .kept .ensures ∙ m .moved .ensures) (c .before .told .ensures))
+    (stepped (m .before .before .before .state .ensures .0) (called (m .before)) (k .kept .ensures ∙ m .moved .ensures) (c .before .plain .ensures))
 
 pub sarvundole-reader-next-spec : {M : Type 1} → statement M
 sarvundole-reader-next-spec =
     tie.close
-    (tie.spec state-requires step-requires moved-requires kept-requires told-requires returns)
+    (tie.spec (λ c κs. search needs) (λ c κs. search needs) (λ c κs. search needs) kept-requires (λ c κs. search needs) returns)

@@ -7,9 +7,6 @@ use Rattle.sarvundole.proofs.Kept.{starts-small}
 use Rattle.sarvundole.proofs.exported.sarvundole_reader_start.Statement.{statement}
 use Rattle.sarvundole.proofs.exported.sarvundole_reader_start.Tie as tie
 
-start-requires : tie.Need-start-requires
-start-requires c κs = search needs
-
 kept-requires : tie.Need-kept-requires
 kept-requires c κs = starts-small (c .start .ensures)
 
@@ -19,4 +16,4 @@ returns c =
     subst (After (a .width) (now (a .scalar)) 0) (sym (c .kept .ensures)) (c .before .start .ensures)
 
 pub sarvundole-reader-start-spec : {M : Type 1} → statement M
-sarvundole-reader-start-spec = tie.close (tie.spec start-requires kept-requires returns)
+sarvundole-reader-start-spec = tie.close (tie.spec (λ c κs. search needs) kept-requires returns)

@@ -5,68 +5,14 @@ use borrow.Author.Needs.{needs}
 use Rattle.trial.proofs.running.answer.Statement.{statement}
 use Rattle.trial.proofs.running.answer.Tie as tie
 
-returns : tie.Need-returns
-returns c = search needs
-
-two-requires : tie.Need-two-requires
-two-requires c κs = search needs
-
-cast-count : tie.Need-cast-count
-cast-count c = search needs
-
-returns-2 : tie.Need-returns-2
-returns-2 c = search needs
-
-sub-bytes : tie.Need-sub-bytes
-sub-bytes c = search needs
-
-returns-3 : tie.Need-returns-3
-returns-3 c = search needs
-
-returns-4 : tie.Need-returns-4
-returns-4 c = search needs
-
-words-requires : tie.Need-words-requires
-words-requires c κs = search needs
-
-multiples-requires : tie.Need-multiples-requires
-multiples-requires c κs = search needs
-
-shared-slice-read-made : tie.Need-shared-slice-read-made
-shared-slice-read-made c = search needs
-
-sub-made : tie.Need-sub-made
-sub-made c = search needs
-
-part-made-start : tie.Need-part-made-start
-part-made-start c = search needs
-
-part-made-end : tie.Need-part-made-end
-part-made-end c = search needs
-
-array-borrow-prefix-words : tie.Need-array-borrow-prefix-words
-array-borrow-prefix-words c = search needs
-
 slice-aggregate-made : tie.Need-slice-aggregate-made
 slice-aggregate-made c = simp length-take (omega arith)
-
-four-requires : tie.Need-four-requires
-four-requires c κs = search needs
-
-four-requires-2 : tie.Need-four-requires-2
-four-requires-2 c κs = search needs
-
-array-borrow-prefix-multiples : tie.Need-array-borrow-prefix-multiples
-array-borrow-prefix-multiples c = search needs
 
 slice-aggregate-made-2 : tie.Need-slice-aggregate-made-2
 slice-aggregate-made-2 c = simp length-take (omega arith)
 
 made-requires : tie.Need-made-requires
 made-requires c κs = simp (length-take, length-drop) (omega arith)
-
-same-length : tie.Need-same-length
-same-length c = search needs
 
 returns-5 : tie.Need-returns-5
 returns-5 c = omega (arith, simp length-take at (c .before .before .before .before .made .ensures))
@@ -75,25 +21,25 @@ pub answer-spec : {M : Type 1} → statement M
 answer-spec =
     tie.close
     (tie.spec
-    returns
-    two-requires
-    cast-count
-    returns-2
-    sub-bytes
-    returns-3
-    returns-4
-    words-requires
-    multiples-requires
-    shared-slice-read-made
-    sub-made
-    part-made-start
-    part-made-end
-    array-borrow-prefix-words
+    (λ c. search needs)
+    (λ c κs. search needs)
+    (λ c. search needs)
+    (λ c. search needs)
+    (λ c. search needs)
+    (λ c. search needs)
+    (λ c. search needs)
+    (λ c κs. search needs)
+    (λ c κs. search needs)
+    (λ c. search needs)
+    (λ c. search needs)
+    (λ c. search needs)
+    (λ c. search needs)
+    (λ c. search needs)
     slice-aggregate-made
-    four-requires
-    four-requires-2
-    array-borrow-prefix-multiples
+    (λ c κs. search needs)
+    (λ c κs. search needs)
+    (λ c. search needs)
     slice-aggregate-made-2
     made-requires
-    same-length
+    (λ c. search needs)
     returns-5)

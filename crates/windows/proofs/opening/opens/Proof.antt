@@ -6,18 +6,6 @@ use lib.Dec.{eqb}
 use Rattle.windows.proofs.opening.opens.Statement.{statement}
 use Rattle.windows.proofs.opening.opens.Tie as tie
 
-bits-requires : tie.Need-bits-requires
-bits-requires c κs = search needs
-
-shr-result : tie.Need-shr-result
-shr-result c = search needs
-
-sub-result : tie.Need-sub-result
-sub-result c = search needs
-
-shr-result-2 : tie.Need-shr-result-2
-shr-result-2 c = search needs
-
 returns : tie.Need-returns
 returns c =
     let a = c .before .args in
@@ -26,4 +14,4 @@ returns c =
     rw (c .bits .ensures) (record { yes = λ h. eqb-false l n (not-true (eqb l n) h); no = λ h. eqb-true l n (not-false (eqb l n) h) })
 
 pub opens-spec : {M : Type 1} → statement M
-opens-spec = tie.close (tie.spec bits-requires shr-result sub-result shr-result-2 returns)
+opens-spec = tie.close (tie.spec (λ c κs. search needs) (λ c. search needs) (λ c. search needs) (λ c. search needs) returns)

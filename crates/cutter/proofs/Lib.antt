@@ -1,0 +1,3 @@
+-- Laws of pieces and the lines in them.
+pub mod Pieces
+pub mod Keeping

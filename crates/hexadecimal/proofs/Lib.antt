@@ -1,0 +1,4 @@
+-- Laws of characters, pairs and bytes.
+pub mod Characters
+pub mod Reading
+pub mod Writing

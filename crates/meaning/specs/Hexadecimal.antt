@@ -1,0 +1,40 @@
+-- Bytes as pairs of hexadecimal characters: read in either case, written in capitals.
+-- Assumes nothing.
+use mathlib.Core.Bool.{Bool, true, cond, _&&_}
+use mathlib.Core.List.{List, [], _∷_}
+use Prim.Native.Nat.{ℕ, _+_, _-_, _*_, _/_, _%_}
+use lib.Dec.{leb, ltb}
+
+-- lo ≤ c ≤ hi
+abbrev pub between : ℕ → ℕ → ℕ → Bool
+between lo hi c = leb lo c && leb c hi
+
+-- what a character stands for, in either case, and 16 for any other character
+unfoldable pub nibble : ℕ → ℕ
+nibble c =
+    cond (between 48 57 c) (c - 48)
+    (cond (between 65 70 c) (c - 55)
+    (cond (between 97 102 c) (c - 87) 16))
+
+-- every character is hexadecimal
+unfoldable pub allHex : List ℕ → Bool
+allHex [] = true
+allHex (c ∷ cs) = ltb (nibble c) 16 && allHex cs
+
+-- the bytes of a line's pairs
+unfoldable pub bytesOf : List ℕ → List ℕ
+bytesOf [] = []
+bytesOf (a ∷ []) = []
+bytesOf (a ∷ b ∷ cs) = (16 * nibble a + nibble b) ∷ bytesOf cs
+
+-- the character of a number below 16, in capitals
+abbrev pub capital : ℕ → ℕ
+capital x = cond (ltb x 10) (48 + x) (55 + x)
+
+-- the characters of a byte, and of bytes
+abbrev pub pair : ℕ → List ℕ → List ℕ
+pair b cs = capital (b / 16) ∷ capital (b % 16) ∷ cs
+
+unfoldable pub written : List ℕ → List ℕ
+written [] = []
+written (b ∷ bs) = pair b (written bs)

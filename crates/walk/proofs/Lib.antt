@@ -1,0 +1,6 @@
+pub mod Words
+pub mod Walk
+pub mod Steps
+pub mod Lengths
+pub mod Tapes
+pub mod Residues

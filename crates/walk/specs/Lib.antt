@@ -1,0 +1,3 @@
+-- What the contracts of the runs cite beside `meaning`.
+pub mod Steps
+pub mod Residues

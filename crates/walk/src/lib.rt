@@ -1,0 +1,1 @@
+// Words, steps and walks: laws on the definitions alone, for every run. There is no code here.
