@@ -1,6 +1,8 @@
 /* From a check number to its digits, its tape and a residue, each step printed.
  *
- *     check_number [WIDTH HEX]        349 at width 4, if nothing is given */
+ *     check_number [WIDTH HEX]        13 at width 2, if nothing is given
+ *
+ * Ends with 0; with 1 where a call refuses; with 2 where what is given is no width and number. Both are told on standard error. */
 #include "sarvundole.h"
 
 #include <stdio.h>
@@ -16,21 +18,35 @@ static uint64_t marks[SARVUNDOLE_MARK_WORDS];
 static uint16_t words[SARVUNDOLE_MOST_WORDS];
 static uint32_t multiples[SARVUNDOLE_MOST_MULTIPLES];
 
+static void wrong(const char *why, const char *given) {
+    fprintf(stderr, "check_number: %s: %s\nusage: check_number [WIDTH HEX]\n", why, given);
+    exit(2);
+}
+
 static void ended(const char *call, unsigned refusal, unsigned place) {
     if (refusal == SARVUNDOLE_ACCEPTED) return;
-    printf("%s: refused with %u at place %u\n", call, refusal, place);
+    fprintf(stderr, "check_number: %s: refused with %u at place %u: %s\n", call, refusal, place, sarvundole_refusal_words(refusal));
     exit(1);
+}
+
+static uint8_t width_of(const char *given) {
+    if (strlen(given) != 1 || given[0] < '0' + SARVUNDOLE_LEAST_WIDTH || given[0] > '0' + SARVUNDOLE_MOST_WIDTH) wrong("no width from 2 to 8", given);
+    return (uint8_t)(given[0] - '0');
+}
+
+static unsigned value_of(char c, const char *hex) {
+    static const char values[] = "0123456789abcdef0123456789ABCDEF";
+    const char *at = c == '\0' ? NULL : strchr(values, c);
+    if (at == NULL) wrong("no hexadecimal number", hex);
+    return (unsigned)(at - values) % 16;
 }
 
 /* Reads pairs of hexadecimal digits; gives the count of bytes. */
 static size_t bytes_of(const char *hex) {
     size_t count = strlen(hex) / 2;
-    if (count > sizeof scalar) count = sizeof scalar;
-    for (size_t i = 0; i < count; i++) {
-        unsigned byte = 0;
-        sscanf(hex + 2 * i, "%2x", &byte);
-        scalar[i] = (uint8_t)byte;
-    }
+    if (strlen(hex) % 2 != 0) wrong("an odd number of hexadecimal digits", hex);
+    if (count > sizeof scalar) wrong("over 66 bytes", hex);
+    for (size_t i = 0; i < count; i++) scalar[i] = (uint8_t)(16 * value_of(hex[2 * i], hex) + value_of(hex[2 * i + 1], hex));
     return count;
 }
 
@@ -42,8 +58,9 @@ static void print_word(uint16_t word) {
 }
 
 int main(int count, char **given) {
-    const uint8_t width = (uint8_t)(count == 3 ? atoi(given[1]) : 4);
-    const size_t bytes = bytes_of(count == 3 ? given[2] : "015D"), places = 8 * bytes + 1;
+    if (count != 1 && count != 3) wrong("a width and a number are wanted", count == 2 ? given[1] : "more is given");
+    const uint8_t width = width_of(count == 3 ? given[1] : "2");
+    const size_t bytes = bytes_of(count == 3 ? given[2] : "0D"), places = 8 * bytes + 1;
 
     sarvundole_tally recoded = sarvundole_recode(SARVUNDOLE_WNAF, width, scalar, bytes, digits, places, marks, SARVUNDOLE_MARK_WORDS);
     ended("recode", recoded.refusal, recoded.place);
@@ -64,5 +81,9 @@ int main(int count, char **given) {
     ended("run", ran.refusal, ran.place);
     printf("%u doublings, %u additions, and %u for the multiples\n", ran.doublings, ran.additions, ran.cost);
     printf("residue %lu of the number times %lu modulo %lu\n", (unsigned long)ran.residue, (unsigned long)BASE, (unsigned long)MODULUS);
+    if (fflush(stdout) != 0) {
+        perror("check_number: standard output");
+        return 1;
+    }
     return 0;
 }

@@ -9,14 +9,24 @@
  * rising order. A refusal has its number, the place where the rule names one and otherwise 0, and 0 in every other field; lent
  * memory then stays as lent. Places of a buffer beyond those named are never touched.
  *
- * What is lent is a pointer and a count of elements. A count may be 0, and its pointer is then never read, so it may be null. What is
- * lent for writing may not overlap anything else that is lent in the same call. No call keeps a pointer, allocates, or calls back;
- * calls on separate memory may run at the same time. The steps depend on the digits: only public numbers belong here. */
+ * What is lent is a pointer and a count of elements. No value of any argument is outside what a call takes; what C cannot let a call look
+ * at is the memory itself, so that is the caller's part: as many elements as the count says have to be there, aligned for their type, to
+ * be read, or to be read and written where they are lent for writing. A count may be 0; its pointer is then not used, and may be null.
+ *
+ * What is lent for writing may share no byte with anything else that is lent in the same call. Nothing is promised where it does, not even that
+ * the call stays inside what was lent: run, for one, judges its words first and stores multiples after. What is lent for reading alone may
+ * overlap freely.
+ *
+ * No call keeps a pointer, allocates, or calls back; calls on separate memory may run at the same time. The archive asks for one symbol,
+ * memset. The steps depend on the digits: only public numbers belong here. */
 #ifndef SARVUNDOLE_H
 #define SARVUNDOLE_H
 
 #include <stddef.h>
 #include <stdint.h>
+
+/* This header's version. */
+#define SARVUNDOLE_VERSION "1.0.0"
 
 #ifdef __cplusplus
 extern "C" {
@@ -49,7 +59,30 @@ enum sarvundole_refusal {
     SARVUNDOLE_BAD_WORD = 15         /* a bad word; place is the first such */
 };
 
-/* The limits, for buffers that always suffice. */
+/* A refusal's number in words, for a log; never null. */
+static inline const char *sarvundole_refusal_words(unsigned refusal) {
+    switch (refusal) {
+    case SARVUNDOLE_ACCEPTED: return "accepted";
+    case SARVUNDOLE_BAD_FORM: return "the form is not 1 to 4";
+    case SARVUNDOLE_BAD_WIDTH: return "the width is not one that this call takes";
+    case SARVUNDOLE_LONG_SCALAR: return "the scalar is over 66 bytes, or the number over 127";
+    case SARVUNDOLE_FEW_PLACES: return "the digit buffer is too short";
+    case SARVUNDOLE_FEW_MARKS: return "the marks buffer is under 9 words";
+    case SARVUNDOLE_LONG_STRING: return "the digit string is over 529 places";
+    case SARVUNDOLE_BAD_DIGIT: return "a digit is not of the width";
+    case SARVUNDOLE_OTHER_WORTH: return "the string is not worth the scalar";
+    case SARVUNDOLE_NEAR_DIGITS: return "two nonzero digits stand too near";
+    case SARVUNDOLE_SHORT_TAPE: return "the tape buffer is too short";
+    case SARVUNDOLE_ZERO_MODULUS: return "the modulus is 0";
+    case SARVUNDOLE_LONG_TAPE: return "the tape is over 1,057 words";
+    case SARVUNDOLE_FEW_MULTIPLES: return "the multiples buffer is too short";
+    case SARVUNDOLE_BAD_WORD: return "a word of the tape is bad";
+    default: return "no refusal of this library";
+    }
+}
+
+/* The limits, for buffers that always suffice. A tape has top - 1 + weight words, 0 if the weight is 0; as recode and the checks tell both,
+ * a tape's size is known before it is made. A buffer of SARVUNDOLE_MOST_WORDS, 1,057, always does. */
 #define SARVUNDOLE_LEAST_WIDTH 2
 #define SARVUNDOLE_MOST_WIDTH 8
 #define SARVUNDOLE_MOST_BYTES 66
@@ -132,7 +165,7 @@ sarvundole_tally sarvundole_check_nonadjacent(uint8_t width, const uint8_t *scal
 /* Turns a string into a step tape. A word is 16 bits: the code in the top four, the entry e in the low twelve, e standing for the odd
  * multiple 2e + 1. Codes: 0 double (e is 0), 1 load, 2 load negated, 3 add, 4 subtract. The highest nonzero digit gives a load; each
  * lower place a double, followed by an add or subtract if its digit is nonzero. A zero string gives no words. No word beyond the count
- * is written. Lent: the string; for writing, room for all the words. Refusals: 2, 7, 8, 11. */
+ * is written. Lent: the string; for writing, room for all the words. Refusals: 2, 7, 8, 11; 11 does not tell how many there are. */
 sarvundole_taped sarvundole_tape(uint8_t width, const int8_t *digits, size_t places, uint16_t *words, size_t room);
 
 /* Runs a tape over residues. All its words are judged before a multiple is stored; then the multiples (2e + 1) * base mod modulus are
@@ -145,8 +178,8 @@ sarvundole_ran sarvundole_run(uint8_t width, const uint16_t *tape, size_t words,
  * it holds the number and is done at once. Lent: the scalar. Refusals: 2, 3. */
 sarvundole_reader sarvundole_reader_start(uint8_t width, const uint8_t *scalar, size_t bytes);
 
-/* The reader's next call. The scalar is lent again: it has to be the one that the reader was started from, and `reader` what the start or
- * the last call gave. Any other reader is taken too. It gives `pending` at `spot` and 0 at each other place while `place` is over `floor`;
+/* The reader's next call. The scalar is lent again. Lent the one that the reader was started from, with what the start or the last call
+ * gave, it gives the next digit of that scalar. Any other reader and scalar are taken too. It then gives `pending` at `spot` and 0 at each other place while `place` is over `floor`;
  * then wMOF's window that opens under a `place` from 1 to 529 at a width of 2 to 8, where bits above the scalar are 0; and it is done where
  * no window can open. Lent: the scalar. */
 sarvundole_stepped sarvundole_reader_next(const uint8_t *scalar, size_t bytes, sarvundole_reader reader);

@@ -125,6 +125,7 @@ static void tape(int at_end) {
     size_t room = take(2), places = left;
     uint16_t *w = lend_to_write(&words, room, 2, 0xEEEE, at_end);
     sarvundole_taped t = sarvundole_tape(width, lend(&strings, places, at_end, frame), places, w, room);
+    if (t.words != (t.words == 0 ? 0 : t.doublings + t.additions + 1)) refuse("a tape has not top - 1 + weight words");
     put(t.refusal, 1), put(t.place, 2), put(t.words, 2), put(t.doublings, 2), put(t.additions, 2);
     given_back(&strings);
     put_lent(&words, 2);
@@ -186,6 +187,18 @@ static void made_up_all(void) {
                 made_up(places[i % count], places[i / count % count], places[i / count / count], (uint8_t)width, at_end);
 }
 
+/* Each number that a call gives has words of its own; 6 and what is over 15 have those of no refusal. */
+static void worded(void) {
+    const char *const none = sarvundole_refusal_words(6);
+    for (unsigned a = 0; a < 300; a++) {
+        const char *words = sarvundole_refusal_words(a);
+        if ((strcmp(words, none) == 0) != (a == 6 || a > SARVUNDOLE_BAD_WORD)) refuse("a refusal has no words, or a number that is none has");
+        for (unsigned b = 0; b < a && a <= SARVUNDOLE_BAD_WORD; b++)
+            if (strcmp(words, sarvundole_refusal_words(b)) == 0) refuse("two refusals have the same words");
+    }
+    if (strlen(SARVUNDOLE_VERSION) == 0) refuse("no version");
+}
+
 static void search(void) {
     uint8_t width = (uint8_t)take(1);
     sarvundole_searched s = sarvundole_search(take(4), width);
@@ -215,6 +228,7 @@ int main(void) {
     memory *const all[] = {&scalars, &strings, &tapes, &digits, &marks, &words, &multiples};
     for (size_t i = 0; i < sizeof all / sizeof *all; i++) make(all[i]);
     made_up_all();
+    worded();
     while (fgets(line, sizeof line, stdin)) {
         size_t bytes = strcspn(line, "\n") / 2;
         for (size_t i = 0; i < bytes; i++) {

@@ -16,6 +16,27 @@ struct Turn {
     goes: bool,
 }
 
+// Writes to standard output, and tells standard error where that fails: a program has no status of its own.
+fn written(bytes: &[u8]) -> bool {
+    let went = io::write_all(STDOUT_FILENO, bytes);
+    if !went {
+        os::fail(b"recode: standard output");
+    }
+    went
+}
+
+// How much is kept of the last line, after a read that gave nothing. Where the read failed, that is told and is no end of the input: a line that has not
+// ended is then no line. It comes before any other call of C's, which could change errno.
+fn kept_at_end(got: isize, kept: usize) -> usize
+    ensures { λ r. ⌜ r ≤ kept ⌝ }
+{
+    if got < 0 {
+        os::fail(b"recode: standard input");
+        return 0;
+    }
+    kept
+}
+
 // Answers the lines that end in a piece of the input. What stands in `out` goes out each time that there is no room for a whole answer more.
 fn pour(
     piece: &[u8],
@@ -38,12 +59,12 @@ fn pour(
         at += fed.used;
         kept = fed.kept;
         let filled = fed.filled;
-        goes = io::write_all(STDOUT_FILENO, &out[..filled]);
+        goes = written(&out[..filled]);
     }
     Turn { kept, goes }
 }
 
-// Reads once. At the end of the input, or where no more can be read, the last line is answered.
+// Reads once. At the end of the input the last line is answered.
 fn take(
     input: &mut [u8],
     line: &mut [u8],
@@ -60,8 +81,9 @@ fn take(
     let got = libc::read(STDIN_FILENO, input);
     let count = io::count(got, input);
     if count == 0 {
-        let last = stream::finish(line, kept, bytes, digits, marks, out);
-        io::write_all(STDOUT_FILENO, &out[..last]);
+        let ended = kept_at_end(got, kept);
+        let last = stream::finish(line, ended, bytes, digits, marks, out);
+        written(&out[..last]);
         return Turn {
             kept: 0,
             goes: false,

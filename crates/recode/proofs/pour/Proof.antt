@@ -52,14 +52,14 @@ feed-requires c κs =
 add-at : tie.Need-add-at Inv-loop μ-loop
 add-at c = omega (arith, moves (c .before .before .before .before .before .before .before .before .before .before) .1)
 
-slice-reshare-prefix-write-all : tie.Need-slice-reshare-prefix-write-all Inv-loop μ-loop
-slice-reshare-prefix-write-all c = c .before .before .before .before .before .before .before .before .before .before .feed .ensures .filled-within
+slice-reshare-prefix-written : tie.Need-slice-reshare-prefix-written Inv-loop μ-loop
+slice-reshare-prefix-written c = c .before .before .before .before .before .before .before .before .before .before .feed .ensures .filled-within
 
-slice-aggregate-write-all : tie.Need-slice-aggregate-write-all Inv-loop μ-loop
-slice-aggregate-write-all c = sym (length-take-le _ _ (c .before .before .before .before .before .before .before .before .before .before .before .feed .ensures .filled-within))
+slice-aggregate-written : tie.Need-slice-aggregate-written Inv-loop μ-loop
+slice-aggregate-written c = sym (length-take-le _ _ (c .before .before .before .before .before .before .before .before .before .before .before .feed .ensures .filled-within))
 
-write-all-requires : tie.Need-write-all-requires Inv-loop μ-loop
-write-all-requires c κs = tt
+written-requires : tie.Need-written-requires Inv-loop μ-loop
+written-requires c κs = tt
 
 loop-less : tie.Need-loop-less Inv-loop μ-loop
 loop-less c = omega (arith, moves (c .before .before .before .before .before .before .before .before .before .before .before .before))
@@ -105,9 +105,9 @@ pour-spec =
     part-feed-end
     feed-requires
     add-at
-    slice-reshare-prefix-write-all
-    slice-aggregate-write-all
-    write-all-requires
+    slice-reshare-prefix-written
+    slice-aggregate-written
+    written-requires
     loop-less
     loop-again
     (λ c. c .before .before .loop .inv .0 .line-length)

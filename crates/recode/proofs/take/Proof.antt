@@ -7,8 +7,8 @@ use Rattle.laws.proofs.Choices.{true-false}
 use Rattle.recode.proofs.take.Statement.{statement}
 use Rattle.recode.proofs.take.Tie as tie
 
-slice-aggregate-write-all : tie.Need-slice-aggregate-write-all
-slice-aggregate-write-all c = sym (length-take-le _ _ (c .before .before .before .before .before .before .before .before .finish .ensures .within))
+slice-aggregate-written : tie.Need-slice-aggregate-written
+slice-aggregate-written c = sym (length-take-le _ _ (c .before .before .before .before .before .before .before .before .finish .ensures .within))
 
 returns : tie.Need-returns
 returns c = record { within = omega arith; keeps = λ e. absurd (true-false (sym e)) }
@@ -27,8 +27,9 @@ take-spec =
     (λ c κs. search needs)
     (λ c κs. search needs)
     (λ c κs. search needs)
+    (λ c κs. search needs)
     (λ c. search needs)
-    slice-aggregate-write-all
+    slice-aggregate-written
     (λ c κs. search needs)
     (λ c. search needs)
     (λ c. search needs)
