@@ -30,14 +30,5 @@ returns c =
 pub keep-spec : {M : Type 1} → statement M
 keep-spec =
     tie.close
-    (tie.spec
-    (λ c. search needs)
-    (λ c κs. search needs)
-    slice-aggregate-copy
-    (λ c. search needs)
-    (λ c. search needs)
-    (λ c. search needs)
-    copy-requires
-    (λ c. search needs)
-    (λ c. search needs)
-    returns)
+    (tie.spec (λ c. search needs) (λ c κs. search needs) slice-aggregate-copy (λ c. search needs) (λ c. search needs) (λ c. search needs) copy-requires
+    (λ c. search needs) (λ c. search needs) returns)

@@ -52,12 +52,4 @@ returns-2 c =
 pub next-spec : {M : Type 1} → statement M
 next-spec =
     tie.close
-    (tie.spec
-    (λ c κs. search needs)
-    slice-aggregate-keep
-    (λ c κs. search needs)
-    (λ c. search needs)
-    (λ c. search needs)
-    returns
-    (λ c. search needs)
-    returns-2)
+    (tie.spec (λ c κs. search needs) slice-aggregate-keep (λ c κs. search needs) (λ c. search needs) (λ c. search needs) returns (λ c. search needs) returns-2)

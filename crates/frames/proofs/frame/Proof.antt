@@ -100,28 +100,6 @@ returns-2 c =
 pub frame-spec : {M : Type 1} → statement M
 frame-spec =
     tie.close
-    (tie.spec
-    read-requires
-    (λ c. search needs)
-    (λ c. search needs)
-    sub-recode
-    part-recode-start
-    part-recode-end
-    (λ c κs. search needs)
-    (λ c κs. search needs)
-    (λ c. search needs)
-    (λ c. search needs)
-    (λ c. search needs)
-    (λ c. search needs)
-    returns
-    sub-places
-    mul-places
-    add-places
-    slice-reshare-prefix-accepted
-    slice-aggregate-accepted
-    accepted-requires
-    (λ c. search needs)
-    (λ c. search needs)
-    (λ c. search needs)
-    (λ c. search needs)
-    returns-2)
+    (tie.spec read-requires (λ c. search needs) (λ c. search needs) sub-recode part-recode-start part-recode-end (λ c κs. search needs) (λ c κs. search needs)
+    (λ c. search needs) (λ c. search needs) (λ c. search needs) (λ c. search needs) returns sub-places mul-places add-places slice-reshare-prefix-accepted
+    slice-aggregate-accepted accepted-requires (λ c. search needs) (λ c. search needs) (λ c. search needs) (λ c. search needs) returns-2)

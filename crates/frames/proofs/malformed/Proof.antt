@@ -40,17 +40,5 @@ returns-5 c = sym (strange _ (sym (c .before .all-hex .ensures) ∙ c .if4 .left
 pub malformed-spec : {M : Type 1} → statement M
 malformed-spec =
     tie.close
-    (tie.spec
-    (λ c. search needs)
-    returns
-    returns-2
-    returns-3
-    (λ c κs. search needs)
-    (λ c. search needs)
-    (λ c. search needs)
-    (λ c. search needs)
-    byte-requires
-    (λ c. search needs)
-    (λ c. search needs)
-    returns-4
-    returns-5)
+    (tie.spec (λ c. search needs) returns returns-2 returns-3 (λ c κs. search needs) (λ c. search needs) (λ c. search needs) (λ c. search needs) byte-requires
+    (λ c. search needs) (λ c. search needs) returns-4 returns-5)

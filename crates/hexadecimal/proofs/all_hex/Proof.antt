@@ -47,14 +47,4 @@ returns-2 c = sym (hex-end (now (c .before .before .before .args .line)) (c .bef
 pub all-hex-spec : {M : Type 1} → statement M
 all-hex-spec =
     tie.close
-    (tie.spec
-    Inv-loop
-    μ-loop
-    loop-holds
-    shared-slice-read-nibble
-    (λ c κs. search needs)
-    returns
-    add-i
-    loop-less
-    loop-again
-    returns-2)
+    (tie.spec Inv-loop μ-loop loop-holds shared-slice-read-nibble (λ c κs. search needs) returns add-i loop-less loop-again returns-2)

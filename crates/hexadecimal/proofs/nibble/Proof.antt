@@ -30,13 +30,4 @@ returns-7 c = sym (other _ (λ l h. omega arith) (λ l h. omega arith) (λ l h. 
 pub nibble-spec : {M : Type 1} → statement M
 nibble-spec =
     tie.close
-    (tie.spec
-    (λ c. search needs)
-    (λ c. search needs)
-    returns
-    returns-2
-    returns-3
-    returns-4
-    returns-5
-    returns-6
-    returns-7)
+    (tie.spec (λ c. search needs) (λ c. search needs) returns returns-2 returns-3 returns-4 returns-5 returns-6 returns-7)

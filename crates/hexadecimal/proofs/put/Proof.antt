@@ -15,11 +15,4 @@ returns c = rw (c .before .capital .ensures, c .capital2 .ensures, add-one)
 pub put-spec : {M : Type 1} → statement M
 put-spec =
     tie.close
-    (tie.spec
-    (λ c κs. search needs)
-    (λ c. search needs)
-    (λ c κs. search needs)
-    (λ c. search needs)
-    slice-write-out-2
-    (λ c. search needs)
-    returns)
+    (tie.spec (λ c κs. search needs) (λ c. search needs) (λ c κs. search needs) (λ c. search needs) slice-write-out-2 (λ c. search needs) returns)

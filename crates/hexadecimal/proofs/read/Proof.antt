@@ -67,19 +67,5 @@ returns c =
 pub read-spec : {M : Type 1} → statement M
 read-spec =
     tie.close
-    (tie.spec
-    Inv-loop
-    μ-loop
-    loop-holds
-    mul-byte
-    shared-slice-read-byte
-    mul-byte-2
-    add-byte
-    shared-slice-read-byte-2
-    byte-requires
-    slice-write-bytes
-    add-k
-    loop-less
-    loop-again
-    (λ c. c .before .loop .inv .1)
-    returns)
+    (tie.spec Inv-loop μ-loop loop-holds mul-byte shared-slice-read-byte mul-byte-2 add-byte shared-slice-read-byte-2 byte-requires slice-write-bytes add-k loop-less
+    loop-again (λ c. c .before .loop .inv .1) returns)

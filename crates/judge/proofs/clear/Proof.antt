@@ -64,16 +64,5 @@ returns c = λ e.
 pub clear-spec : {M : Type 1} → statement M
 clear-spec =
     tie.close
-    (tie.spec
-    Inv-loop
-    μ-loop
-    loop-holds
-    sub-parted
-    shared-slice-copy-out-parted
-    shared-slice-copy-out-parted-2
-    parted-requires
-    both-requires
-    add-i
-    loop-less
-    loop-again
+    (tie.spec Inv-loop μ-loop loop-holds sub-parted shared-slice-copy-out-parted shared-slice-copy-out-parted-2 parted-requires both-requires add-i loop-less loop-again
     returns)

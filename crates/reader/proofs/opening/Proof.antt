@@ -71,4 +71,5 @@ returns-2 c =
 pub opening-spec : {M : Type 1} → statement M
 opening-spec =
     tie.close
-    (tie.spec (λ c. search needs) (λ c κs. search needs) (λ c κs. search needs) (λ c κs. search needs) look-up-requires placed-requires (λ c κs. search needs) returns (λ c. search needs) (λ c κs. search needs) returns-2)
+    (tie.spec (λ c. search needs) (λ c κs. search needs) (λ c κs. search needs) (λ c κs. search needs) look-up-requires placed-requires (λ c κs. search needs) returns
+    (λ c. search needs) (λ c κs. search needs) returns-2)

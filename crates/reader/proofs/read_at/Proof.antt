@@ -68,4 +68,5 @@ loop-again c =
 pub read-at-spec : {M : Type 1} → statement M
 read-at-spec =
     tie.close
-    (tie.spec Inv-loop μ-loop start-requires loop-holds call-requires returns moved-requires add-k sub-held held-requires cast-state sub-state add-k-2 loop-less loop-again)
+    (tie.spec Inv-loop μ-loop start-requires loop-holds call-requires returns moved-requires add-k sub-held held-requires cast-state sub-state add-k-2 loop-less
+    loop-again)

@@ -96,29 +96,8 @@ returns-2 c =
 pub pour-spec : {M : Type 1} → statement M
 pour-spec =
     tie.close
-    (tie.spec
-    Inv-loop
-    μ-loop
-    loop-holds
-    sub-feed
-    part-feed-start
-    part-feed-end
-    feed-requires
-    add-at
-    slice-reshare-prefix-written
-    slice-aggregate-written
-    written-requires
-    loop-less
-    loop-again
-    (λ c. c .before .before .loop .inv .0 .line-length)
-    (λ c. c .before .before .loop .inv .0 .bytes-length)
-    (λ c. c .before .before .loop .inv .0 .digits-length)
-    (λ c. c .before .before .loop .inv .0 .marks-length)
-    (λ c. c .before .before .loop .inv .0 .out-length)
-    returns
-    (λ c. c .before .loop .inv .0 .line-length)
-    (λ c. c .before .loop .inv .0 .bytes-length)
-    (λ c. c .before .loop .inv .0 .digits-length)
-    (λ c. c .before .loop .inv .0 .marks-length)
-    (λ c. c .before .loop .inv .0 .out-length)
-    returns-2)
+    (tie.spec Inv-loop μ-loop loop-holds sub-feed part-feed-start part-feed-end feed-requires add-at slice-reshare-prefix-written slice-aggregate-written written-requires
+    loop-less loop-again (λ c. c .before .before .loop .inv .0 .line-length) (λ c. c .before .before .loop .inv .0 .bytes-length)
+    (λ c. c .before .before .loop .inv .0 .digits-length) (λ c. c .before .before .loop .inv .0 .marks-length) (λ c. c .before .before .loop .inv .0 .out-length) returns
+    (λ c. c .before .loop .inv .0 .line-length) (λ c. c .before .loop .inv .0 .bytes-length) (λ c. c .before .loop .inv .0 .digits-length)
+    (λ c. c .before .loop .inv .0 .marks-length) (λ c. c .before .loop .inv .0 .out-length) returns-2)

@@ -58,25 +58,8 @@ returns-2 c = tt
 pub run-spec : {M : Type 1} → statement M
 run-spec =
     tie.close
-    (tie.spec
-    Inv-loop
-    μ-loop
-    loop-holds
-    take-requires
-    sub-turns
-    loop-less
-    loop-again
-    (λ c. c .before .before .loop .inv .1)
-    (λ c. c .before .before .loop .inv .0 .line-length)
-    (λ c. c .before .before .loop .inv .0 .bytes-length)
-    (λ c. c .before .before .loop .inv .0 .digits-length)
-    (λ c. c .before .before .loop .inv .0 .marks-length)
-    (λ c. c .before .before .loop .inv .0 .out-length)
-    returns
-    (λ c. c .before .loop .inv .1)
-    (λ c. c .before .loop .inv .0 .line-length)
-    (λ c. c .before .loop .inv .0 .bytes-length)
-    (λ c. c .before .loop .inv .0 .digits-length)
-    (λ c. c .before .loop .inv .0 .marks-length)
-    (λ c. c .before .loop .inv .0 .out-length)
-    returns-2)
+    (tie.spec Inv-loop μ-loop loop-holds take-requires sub-turns loop-less loop-again (λ c. c .before .before .loop .inv .1)
+    (λ c. c .before .before .loop .inv .0 .line-length) (λ c. c .before .before .loop .inv .0 .bytes-length) (λ c. c .before .before .loop .inv .0 .digits-length)
+    (λ c. c .before .before .loop .inv .0 .marks-length) (λ c. c .before .before .loop .inv .0 .out-length) returns (λ c. c .before .loop .inv .1)
+    (λ c. c .before .loop .inv .0 .line-length) (λ c. c .before .loop .inv .0 .bytes-length) (λ c. c .before .loop .inv .0 .digits-length)
+    (λ c. c .before .loop .inv .0 .marks-length) (λ c. c .before .loop .inv .0 .out-length) returns-2)

@@ -88,4 +88,5 @@ returns-8 c =
 pub judge-spec : {M : Type 1} → statement M
 judge-spec =
     tie.close
-    (tie.spec returns returns-2 (λ c κs. search needs) (λ c. search needs) (λ c. search needs) returns-3 returns-4 returns-5 (λ c. search needs) (λ c. search needs) returns-6 returns-7 returns-8)
+    (tie.spec returns returns-2 (λ c κs. search needs) (λ c. search needs) (λ c. search needs) returns-3 returns-4 returns-5 (λ c. search needs) (λ c. search needs)
+    returns-6 returns-7 returns-8)

@@ -78,4 +78,5 @@ returns-2 c =
 pub recode-spec : {M : Type 1} → statement M
 recode-spec =
     tie.close
-    (tie.spec (λ c κs. search needs) (λ c. search needs) (λ c. search needs) mul-places add-places slice-relend-prefix-fill slice-aggregate-fill slice-relend-prefix-fill-2 slice-aggregate-fill-2 fill-requires returns (λ c. search needs) (λ c. search needs) returns-2)
+    (tie.spec (λ c κs. search needs) (λ c. search needs) (λ c. search needs) mul-places add-places slice-relend-prefix-fill slice-aggregate-fill
+    slice-relend-prefix-fill-2 slice-aggregate-fill-2 fill-requires returns (λ c. search needs) (λ c. search needs) returns-2)

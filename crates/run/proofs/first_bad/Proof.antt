@@ -50,15 +50,4 @@ returns-2 c =
 pub first-bad-spec : {M : Type 1} → statement M
 first-bad-spec =
     tie.close
-    (tie.spec
-    Inv-loop
-    μ-loop
-    loop-holds
-    mul-good
-    shared-slice-read-good
-    good-requires
-    returns
-    add-i
-    loop-less
-    loop-again
-    returns-2)
+    (tie.spec Inv-loop μ-loop loop-holds mul-good shared-slice-read-good good-requires returns add-i loop-less loop-again returns-2)

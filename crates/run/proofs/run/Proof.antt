@@ -123,26 +123,6 @@ returns-6 c =
 pub run-spec : {M : Type 1} → statement M
 run-spec =
     tie.close
-    (tie.spec
-    (λ c κs. search needs)
-    (λ c. search needs)
-    (λ c. search needs)
-    (λ c κs. search needs)
-    returns
-    (λ c κs. search needs)
-    returns-2
-    (λ c κs. search needs)
-    returns-3
-    (λ c κs. search needs)
-    (λ c κs. search needs)
-    returns-4
-    first-bad-requires
-    (λ c. search needs)
-    (λ c κs. search needs)
-    returns-5
-    store-requires
-    reach-requires
-    sub-cost
-    cast-cost
-    (λ c. search needs)
-    returns-6)
+    (tie.spec (λ c κs. search needs) (λ c. search needs) (λ c. search needs) (λ c κs. search needs) returns (λ c κs. search needs) returns-2 (λ c κs. search needs)
+    returns-3 (λ c κs. search needs) (λ c κs. search needs) returns-4 first-bad-requires (λ c. search needs) (λ c κs. search needs) returns-5 store-requires
+    reach-requires sub-cost cast-cost (λ c. search needs) returns-6)

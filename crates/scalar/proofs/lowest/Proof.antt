@@ -64,17 +64,4 @@ returns-2 c =
 pub lowest-spec : {M : Type 1} → statement M
 lowest-spec =
     tie.close
-    (tie.spec
-    Inv-loop
-    μ-loop
-    loop-holds
-    byte-requires
-    mul-result
-    cast-result
-    add-result
-    returns
-    add-q
-    loop-less
-    loop-again
-    mul-result-2
-    returns-2)
+    (tie.spec Inv-loop μ-loop loop-holds byte-requires mul-result cast-result add-result returns add-q loop-less loop-again mul-result-2 returns-2)

@@ -117,27 +117,8 @@ returns-2 c =
 pub feed-spec : {M : Type 1} → statement M
 feed-spec =
     tie.close
-    (tie.spec
-    Inv-loop
-    μ-loop
-    sub-room
-    loop-holds
-    sub-step
-    part-step-start
-    part-step-end
-    step-requires
-    add-used
-    loop-less
-    loop-again
-    (λ c. c .before .before .loop .inv .0 .line-length)
-    (λ c. c .before .before .loop .inv .0 .bytes-length)
-    (λ c. c .before .before .loop .inv .0 .digits-length)
-    (λ c. c .before .before .loop .inv .0 .marks-length)
-    (λ c. c .before .before .loop .inv .0 .out-length)
-    returns
-    (λ c. c .before .loop .inv .0 .line-length)
-    (λ c. c .before .loop .inv .0 .bytes-length)
-    (λ c. c .before .loop .inv .0 .digits-length)
-    (λ c. c .before .loop .inv .0 .marks-length)
-    (λ c. c .before .loop .inv .0 .out-length)
-    returns-2)
+    (tie.spec Inv-loop μ-loop sub-room loop-holds sub-step part-step-start part-step-end step-requires add-used loop-less loop-again
+    (λ c. c .before .before .loop .inv .0 .line-length) (λ c. c .before .before .loop .inv .0 .bytes-length) (λ c. c .before .before .loop .inv .0 .digits-length)
+    (λ c. c .before .before .loop .inv .0 .marks-length) (λ c. c .before .before .loop .inv .0 .out-length) returns (λ c. c .before .loop .inv .0 .line-length)
+    (λ c. c .before .loop .inv .0 .bytes-length) (λ c. c .before .loop .inv .0 .digits-length) (λ c. c .before .loop .inv .0 .marks-length)
+    (λ c. c .before .loop .inv .0 .out-length) returns-2)

@@ -23,15 +23,5 @@ returns-3 c = c .coded2 .ensures ∙ sym (ap (λ s. wordOf (told s)) (c .before 
 pub encode-spec : {M : Type 1} → statement M
 encode-spec =
     tie.close
-    (tie.spec
-    (λ c. search needs)
-    (λ c. search needs)
-    coded-requires
-    (λ c. search needs)
-    coded-requires-2
-    (λ c. search needs)
-    (λ c. search needs)
-    (λ c. search needs)
-    returns-2
-    returns-3
-    (λ c. search needs))
+    (tie.spec (λ c. search needs) (λ c. search needs) coded-requires (λ c. search needs) coded-requires-2 (λ c. search needs) (λ c. search needs) (λ c. search needs)
+    returns-2 returns-3 (λ c. search needs))

@@ -115,28 +115,6 @@ returns-5 c =
 pub tape-spec : {M : Type 1} → statement M
 tape-spec =
     tie.close
-    (tie.spec
-    (λ c κs. search needs)
-    (λ c. search needs)
-    (λ c. search needs)
-    (λ c κs. search needs)
-    returns
-    (λ c κs. search needs)
-    returns-2
-    scan-requires
-    (λ c. search needs)
-    cast-refused
-    (λ c κs. search needs)
-    (λ c. search needs)
-    (λ c κs. search needs)
-    add-needed
-    (λ c κs. search needs)
-    returns-3
-    write-requires
-    cast-t20
-    cast-t21
-    (λ c κs. search needs)
-    cast-t22
-    returns-4
-    (λ c. search needs)
-    returns-5)
+    (tie.spec (λ c κs. search needs) (λ c. search needs) (λ c. search needs) (λ c κs. search needs) returns (λ c κs. search needs) returns-2 scan-requires
+    (λ c. search needs) cast-refused (λ c κs. search needs) (λ c. search needs) (λ c κs. search needs) add-needed (λ c κs. search needs) returns-3 write-requires cast-t20
+    cast-t21 (λ c κs. search needs) cast-t22 returns-4 (λ c. search needs) returns-5)

@@ -135,24 +135,5 @@ returns-3 c =
 pub write-spec : {M : Type 1} → statement M
 write-spec =
     tie.close
-    (tie.spec
-    Inv-loop
-    μ-loop
-    returns
-    sub-i
-    shared-slice-copy-out-move-of
-    move-of-requires
-    encode-requires
-    slice-write-words
-    same-length
-    returns-2
-    loop-holds
-    sub-i-2
-    shared-slice-copy-out-lower
-    lower-requires
-    loop-less
-    loop-again
-    shared-slice-copy-out-lowest
-    lowest-requires
-    same-length-2
-    returns-3)
+    (tie.spec Inv-loop μ-loop returns sub-i shared-slice-copy-out-move-of move-of-requires encode-requires slice-write-words same-length returns-2 loop-holds sub-i-2
+    shared-slice-copy-out-lower lower-requires loop-less loop-again shared-slice-copy-out-lowest lowest-requires same-length-2 returns-3)

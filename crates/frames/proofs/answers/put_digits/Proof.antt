@@ -75,17 +75,5 @@ returns c =
 pub put-digits-spec : {M : Type 1} → statement M
 put-digits-spec =
     tie.close
-    (tie.spec
-    Inv-loop
-    μ-loop
-    loop-holds
-    shared-slice-copy-out-byte-of
-    byte-of-requires
-    mul-put
-    add-put
-    put-requires
-    add-i
-    loop-less
-    loop-again
-    (λ c. c .before .loop .inv .1)
-    returns)
+    (tie.spec Inv-loop μ-loop loop-holds shared-slice-copy-out-byte-of byte-of-requires mul-put add-put put-requires add-i loop-less loop-again
+    (λ c. c .before .loop .inv .1) returns)

@@ -218,4 +218,5 @@ returns c =
 pub advance-spec : {M : Type 1} → statement M
 advance-spec =
     tie.close
-    (tie.spec Inv-loop μ-loop bits-requires sub-tail lowest-place-requires stretch-under-requires sub-places places-requires loop-holds highest-requires below-requires window-requires work-out-requires cast-placed add-placed placed-requires put-requires loop-less loop-again smaller-requires same-length same-length-2 returns)
+    (tie.spec Inv-loop μ-loop bits-requires sub-tail lowest-place-requires stretch-under-requires sub-places places-requires loop-holds highest-requires below-requires
+    window-requires work-out-requires cast-placed add-placed placed-requires put-requires loop-less loop-again smaller-requires same-length same-length-2 returns)

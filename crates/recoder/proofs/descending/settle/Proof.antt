@@ -179,4 +179,5 @@ returns-3 c =
 pub settle-spec : {M : Type 1} → statement M
 settle-spec =
     tie.close
-    (tie.spec (λ c κs. search needs) (λ c. search needs) add-tie add-if1 returns (λ c κs. search needs) (λ c κs. search needs) (λ c κs. search needs) work-out-requires placed-requires put-requires put-requires-2 same-length (λ c. search needs) returns-2 returns-3)
+    (tie.spec (λ c κs. search needs) (λ c. search needs) add-tie add-if1 returns (λ c κs. search needs) (λ c κs. search needs) (λ c κs. search needs) work-out-requires
+    placed-requires put-requires put-requires-2 same-length (λ c. search needs) returns-2 returns-3)

@@ -132,4 +132,5 @@ returns c =
 pub advance-spec : {M : Type 1} → statement M
 advance-spec =
     tie.close
-    (tie.spec Inv-loop μ-loop lowest-place-requires stretch-under-requires sub-places places-requires loop-holds highest-requires below-requires cast-put add-put digit-requires put-requires loop-less loop-again same-length same-length-2 returns)
+    (tie.spec Inv-loop μ-loop lowest-place-requires stretch-under-requires sub-places places-requires loop-holds highest-requires below-requires cast-put add-put
+    digit-requires put-requires loop-less loop-again same-length same-length-2 returns)

@@ -91,4 +91,5 @@ returns c =
 pub clear-spec : {M : Type 1} → statement M
 clear-spec =
     tie.close
-    (tie.spec Inv-loop μ-loop Inv-loop2 μ-loop2 loop-holds slice-set-of-digits add-i loop-less loop-again loop2-holds mul-marks slice-write-marks add-q loop2-less loop2-again same-length same-length-2 returns)
+    (tie.spec Inv-loop μ-loop Inv-loop2 μ-loop2 loop-holds slice-set-of-digits add-i loop-less loop-again loop2-holds mul-marks slice-write-marks add-q loop2-less
+    loop2-again same-length same-length-2 returns)

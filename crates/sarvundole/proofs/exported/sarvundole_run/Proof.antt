@@ -13,11 +13,4 @@ returns-2 c = told (c .before .outcome2 .given .1) (c .before .before .before .b
 pub sarvundole-run-spec : {M : Type 1} → statement M
 sarvundole-run-spec =
     tie.close
-    (tie.spec
-    (λ c κs. search needs)
-    (λ c. search needs)
-    (λ c. search needs)
-    (λ c. search needs)
-    returns
-    (λ c. search needs)
-    returns-2)
+    (tie.spec (λ c κs. search needs) (λ c. search needs) (λ c. search needs) (λ c. search needs) returns (λ c. search needs) returns-2)

@@ -11,13 +11,5 @@ slice-aggregate-told c = simp length-take (omega arith)
 pub answer-spec : {M : Type 1} → statement M
 answer-spec =
     tie.close
-    (tie.spec
-    (λ c κs. search needs)
-    (λ c. search needs)
-    slice-aggregate-told
-    (λ c κs. search needs)
-    (λ c. search needs)
-    (λ c. search needs)
-    (λ c. search needs)
-    (λ c. search needs)
-    (λ c. search needs))
+    (tie.spec (λ c κs. search needs) (λ c. search needs) slice-aggregate-told (λ c κs. search needs) (λ c. search needs) (λ c. search needs) (λ c. search needs)
+    (λ c. search needs) (λ c. search needs))

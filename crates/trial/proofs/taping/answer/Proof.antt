@@ -20,23 +20,6 @@ returns-4 c = omega (arith, simp length-take at (c .before .before .before .befo
 pub answer-spec : {M : Type 1} → statement M
 answer-spec =
     tie.close
-    (tie.spec
-    (λ c. search needs)
-    (λ c κs. search needs)
-    (λ c. search needs)
-    (λ c. search needs)
-    (λ c. search needs)
-    (λ c. search needs)
-    (λ c κs. search needs)
-    (λ c κs. search needs)
-    (λ c. search needs)
-    (λ c. search needs)
-    (λ c. search needs)
-    (λ c. search needs)
-    (λ c. search needs)
-    slice-aggregate-made
-    (λ c. search needs)
-    slice-aggregate-made-2
-    made-requires
-    (λ c. search needs)
-    returns-4)
+    (tie.spec (λ c. search needs) (λ c κs. search needs) (λ c. search needs) (λ c. search needs) (λ c. search needs) (λ c. search needs) (λ c κs. search needs)
+    (λ c κs. search needs) (λ c. search needs) (λ c. search needs) (λ c. search needs) (λ c. search needs) (λ c. search needs) slice-aggregate-made (λ c. search needs)
+    slice-aggregate-made-2 made-requires (λ c. search needs) returns-4)
