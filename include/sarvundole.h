@@ -40,7 +40,7 @@ enum sarvundole_form {
     SARVUNDOLE_CLOSEST = 4 /* the closest u * 2^i is taken off, on a tie the one of larger absolute value */
 };
 
-/* The refusals. 6 and 16 are never given here: n + 1 places always suffice, and 16 is the line program's. */
+/* The refusals. 6 was struck, since n + 1 places always suffice, and is not used again; 16 is the line program's. */
 enum sarvundole_refusal {
     SARVUNDOLE_ACCEPTED = 0,
     SARVUNDOLE_BAD_FORM = 1,         /* form is not 1..4 */

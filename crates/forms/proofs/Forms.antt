@@ -106,7 +106,7 @@ module _ (w N n : ℕ) (two : 2 ≤ w) where
       go nothing a b = absurd a
 
   module _ (small : N < 2 ^ n) where
-    -- n + 1 places always suffice: number 6 never happens
+    -- n + 1 places always suffice
     pub form-exists : (f : ℕ) → 1 ≤ f → f ≤ 4 → (ds : List ℤ) × Form f w N n ds
     form-exists f h l = let (k, e) = asked-one f h l in (stringOf k w N n, rw e (kind-is w N n two small k))
 

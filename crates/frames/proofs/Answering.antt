@@ -58,8 +58,7 @@ line-first line frame places words r p hp hw f = inr (T-not (malformed line) fra
     go (inr (n1, inr (n2, inl (e, c)))) = inr (n1, inr (n2, inl (e, (c .0, refl))))
     go (inr (n1, inr (n2, inr (n3, inl (e, c))))) = absurd (n3 (omega (arith, c .0)))
     go (inr (n1, inr (n2, inr (n3, inr (n4, inl (e, c)))))) = absurd (omega (arith, c .0))
-    go (inr (n1, inr (n2, inr (n3, inr (n4, inr (n5, inl (e, c))))))) = inr (n1, inr (n2, inr (n3, inr ((λ h. omega arith), inr ((λ h. omega arith), inl (e, (c .0, refl)))))))
-    go (inr (n1, inr (n2, inr (n3, inr (n4, inr (n5, inr (n6, d))))))) = inr (n1, inr (n2, inr (n3, inr ((λ h. omega arith), inr ((λ h. omega arith), inr (n6, (d .0, refl)))))))
+    go (inr (n1, inr (n2, inr (n3, inr (n4, inr (n5, d)))))) = inr (n1, inr (n2, inr (n3, inr ((λ h. omega arith), inr ((λ h. omega arith), (d .0, refl))))))
 
 -- ---- the work memory
 -- the frame's bytes, read to its front

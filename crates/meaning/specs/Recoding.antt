@@ -28,7 +28,7 @@ marksOf ds = listed (λ q. marked 64 (drop (64 * q) ds)) 0 markWords
 
 -- ---- refusals
 -- 1: form is not 1..4; 2: width outside 2..8, or not 2 with form 1; 3: scalar over 66 bytes; 4: digit buffer under n + 1 places;
--- 5: marks buffer under 9 words; 6: a digit would be needed above place n, so that no string of n + 1 places has the form
+-- 5: marks buffer under 9 words
 abbrev pub recodeRules : (form w : ℕ) (s : List ℕ) (places words : ℕ) → List Rule
 recodeRules form w s places words =
     plain 1 ((form < 1) ⊎ (4 < form))
@@ -36,7 +36,6 @@ recodeRules form w s places words =
     ∷ longScalar s
     ∷ plain 4 (places < bitCount s + 1)
     ∷ plain 5 (words < markWords)
-    ∷ plain 6 ((ds : List ℤ) → Form form w (number s) (bitCount s) ds → ⊥)
     ∷ []
 
 -- ---- what the call returns and leaves

@@ -1,5 +1,5 @@
 -- Refusals: a call tries its own rules in rising order and gives the number and the place of the first that applies; 0 is acceptance.
--- The rules of each call stand beside what the call returns. Assumes nothing.
+-- The rules of each call stand beside what the call returns. 6 was struck and is not used again: n + 1 places always suffice. Assumes nothing.
 use mathlib.Core.Path.{_≡_}
 use mathlib.Core.Logic.{_⊎_}
 use mathlib.Core.List.{List, [], _∷_}

@@ -6,11 +6,11 @@ use mathlib.Core.List.{List}
 use Prim.Native.Nat.{ℕ, _+_}
 use native.Mathlib.Omega.{arith}
 use lib.Dec.{T}
-use lib.IntN.{ℤ}
+use lib.IntN.{ℤ, pos}
 use lib.ListN.{length}
-use Rattle.laws.proofs.Choices.{not-below}
 use Rattle.meaning.specs.Scalars.{number, bitCount}
-use Rattle.meaning.specs.Digits.{Tally}
+use Rattle.meaning.specs.Digits.{worth, Tally}
+use Rattle.meaning.specs.Forms.{Form}
 use Rattle.meaning.specs.Refusals.{Rule, First}
 use Rattle.meaning.specs.Recoding.{markWords, recodeRules}
 use Rattle.meaning.specs.Checking.{checkRules, nonadjacentRules}
@@ -20,8 +20,9 @@ use Rattle.meaning.specs.Reading.{readerRules, Holds}
 use Rattle.meaning.specs.Searching.{searchRules, Searched, Search}
 use Rattle.meaning.specs.Frames.{malformed, formOf, widthOf, scalarOf, lineRules, Answer}
 use Rattle.forms.proofs.Refusals.{kept-lent}
-use Rattle.forms.proofs.Forms.{form-exists}
+use Rattle.forms.proofs.Forms.{form-exists, form-length, form-worth}
 use Rattle.scalar.proofs.Bytes.{Bytes, number-lt}
+use Rattle.recoder.specs.Judged.{Allowed}
 use Rattle.promises.proofs.Exactly.{Given, Exactly, first-given, exactly}
 use Rattle.promises.proofs.Recode as Recoding
 use Rattle.promises.proofs.Tape as Taping
@@ -72,7 +73,6 @@ line-exactly line out A = go (A .first)
     none-16 (inr (inr (inl (e, _)))) = omega arith
     none-16 (inr (inr (inr (inl (e, _))))) = omega arith
     none-16 (inr (inr (inr (inr (inl (e, _)))))) = omega arith
-    none-16 (inr (inr (inr (inr (inr (inl (e, _))))))) = omega arith
 
     go : First (lineRules line) (A .refusal) 0 → LineExactly line (A .refusal)
     go (inl (e, (h, _))) = record { malformed-first = λ _. e; malformed-only = λ _. h; others = λ n. absurd (n h) }
@@ -83,20 +83,12 @@ line-exactly line out A = go (A .first)
           others = λ _. exactly rules tt (A .refusal) 0 f;
         }
 
--- 6 is never given: n + 1 places always suffice
-pub recode-never-6 : (form w : ℕ) (s : List ℕ) → Bytes s → (digits₀ : List ℤ) (marks₀ : List ℕ) (o : Recoding.Outcome) → Recoding.Keeps form w s digits₀ marks₀ o → o .tally .refusal ≢ 6
-recode-never-6 form w s bytes digits₀ marks₀ o K z = go (K .first)
-  where
-    go : First (recodeRules form w s (length digits₀) (length marks₀)) (o .tally .refusal) (o .tally .place) → ⊥
-    go (inl (e, _)) = omega arith
-    go (inr (_, inl (e, _))) = omega arith
-    go (inr (_, inr (_, inl (e, _)))) = omega arith
-    go (inr (_, inr (_, inr (_, inl (e, _))))) = omega arith
-    go (inr (_, inr (_, inr (_, inr (_, inl (e, _)))))) = omega arith
-    go (inr (f, inr (g, inr (_, inr (_, inr (_, inl (_, h))))))) =
-        let (ds, formed) = form-exists w (number s) (bitCount s) (not-below (λ l. g (inl (inl l)))) (number-lt s bytes) form (not-below (λ l. f (inl l))) (not-below (λ l. f (inr l))) in
-        h .0 ds formed
-    go (inr (_, inr (_, inr (_, inr (_, inr (_, inr (_, (e, _)))))))) = omega arith
+-- ---- n + 1 places always suffice: in every form, at every width that it has, each scalar has a string of so many, which is worth it, and no digit is needed above them
+pub places-suffice : (form w : ℕ) → Allowed form w → (s : List ℕ) → Bytes s → (ds : List ℤ) × Form form w (number s) (bitCount s) ds × (length ds ≡ bitCount s + 1) × (worth ds ≡ pos (number s))
+places-suffice form w a s bytes =
+    let small = number-lt s bytes in
+    let (ds, f) = form-exists w (number s) (bitCount s) (a .wide .0) small form (a .least) (a .most) in
+    (ds, f, form-length w (number s) (bitCount s) (a .wide .0) small form ds f, form-worth w (number s) (bitCount s) (a .wide .0) small form ds f)
 
 -- ---- no lent buffer differs after a refusal
 pub recode-kept : (form w : ℕ) (s : List ℕ) (digits₀ : List ℤ) (marks₀ : List ℕ) (o : Recoding.Outcome) → Recoding.Keeps form w s digits₀ marks₀ o → o .tally .refusal ≢ 0

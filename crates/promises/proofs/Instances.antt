@@ -108,18 +108,18 @@ bad? m ds = among (BadDigit m ds) one (length ds) (λ p b. b .within)
         go (no n) = no (λ b. n (b .within, b .bad))
 
 -- ---- recode, of a scalar of bytes
-recode-decided : (form w : ℕ) (s : List ℕ) → Bytes s → (places words : ℕ) → AllDecided (recodeRules form w s places words)
-recode-decided form w s bytes places words = (
+recode-decided : (form w : ℕ) (s : List ℕ) (places words : ℕ) → AllDecided (recodeRules form w s places words)
+recode-decided form w s places words = (
   by (or? (decLt form 1) (decLt 4 form)),
-  λ a. (
+  λ _. (
     by (or? (or? (decLt w leastWidth) (decLt mostWidth w)) (and? (ℕ-discrete form 1) (not? (ℕ-discrete w 2)))),
-    λ b. (
+    λ _. (
       by (decLt 66 (length s)),
       λ _. (
         by (decLt places (bitCount s + 1)),
         λ _. (
           by (decLt words markWords),
-          λ _. (inr (λ h. let (ds, f) = form-exists w (number s) (bitCount s) (not-below (λ l. b (inl (inl l)))) (number-lt s bytes) form (not-below (λ l. a (inl l))) (not-below (λ l. a (inr l))) in h ds f), λ _. tt),
+          λ _. tt,
         ),
       ),
     ),
@@ -127,7 +127,7 @@ recode-decided form w s bytes places words = (
 )
 
 pub recode-kept-by : (form w : ℕ) (s : List ℕ) → Bytes s → (digits₀ : List ℤ) (marks₀ : List ℕ) → (o : Recoding.Outcome) × Recoding.Keeps form w s digits₀ marks₀ o
-recode-kept-by form w s bytes digits₀ marks₀ = let (r, p, f) = first-exists rules (recode-decided form w s bytes (length digits₀) (length marks₀)) in go r p f
+recode-kept-by form w s bytes digits₀ marks₀ = let (r, p, f) = first-exists rules (recode-decided form w s (length digits₀) (length marks₀)) in go r p f
   where
     rules : List Rule
     rules = recodeRules form w s (length digits₀) (length marks₀)

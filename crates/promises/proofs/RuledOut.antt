@@ -291,7 +291,7 @@ one-line = 48 ∷ 50 ∷ 48 ∷ 50 ∷ 48 ∷ 49 ∷ 48 ∷ 49 ∷ []
 
 one-line-first : First (lineRules one-line) 0 0
 unfolding one-line malformed bytesOf allHex nibble number
-one-line-first = first-none (lineRules one-line) ((λ h. h), admits 2 2 (1 ∷ []) 9 9 (allowed 2 2 tt) (lit≤ tt) (lit≤ tt) (lit≤ tt) (lit< tt))
+one-line-first = first-none (lineRules one-line) ((λ h. h), admits 2 2 (1 ∷ []) 9 9 (allowed 2 2 tt) (lit≤ tt) (lit≤ tt) (lit≤ tt))
 
 -- refusing everything: no answer begins with the number 0
 pub line-not-refusing : (call : List ℕ → List ℕ) → ((line : List ℕ) → Answer line (call line)) → ((line : List ℕ) → take 2 (call line) ≢ 48 ∷ 48 ∷ []) → ⊥

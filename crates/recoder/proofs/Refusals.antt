@@ -1,14 +1,13 @@
--- Where no rule of recode applies; number 6 never does, since n + 1 places always suffice. Assumes nothing.
+-- Where no rule of recode applies. Assumes nothing.
 use mathlib.Core.Path.{_≡_}
 use mathlib.Core.Logic.{_⊎_, _≢_, ⊎-elim}
 use mathlib.Core.List.{List}
-use Prim.Native.Nat.{ℕ, _+_, _^_, _<_, _≤_}
+use Prim.Native.Nat.{ℕ, _+_, _<_, _≤_}
 use native.Mathlib.Omega.{arith}
 use lib.ListN.{length}
-use Rattle.meaning.specs.Scalars.{number, bitCount}
+use Rattle.meaning.specs.Scalars.{bitCount}
 use Rattle.meaning.specs.Recoding.{markWords, recodeRules}
 use Rattle.forms.proofs.Refusals.{Clear}
-use Rattle.forms.proofs.Forms.{form-exists}
 use Rattle.recoder.specs.Judged.{Allowed}
 
 module _ (form w : ℕ) (s : List ℕ) (places words : ℕ) (a : Allowed form w) where
@@ -20,7 +19,5 @@ module _ (form w : ℕ) (s : List ℕ) (places words : ℕ) (a : Allowed form w)
   is-width = ⊎-elim (⊎-elim (λ l. omega (arith, a .wide)) (λ l. omega (arith, a .wide))) (λ l. l .1 (a .narrow (l .0)))
 
   -- and all the rest
-  pub admits : length s ≤ 66 → bitCount s + 1 ≤ places → markWords ≤ words → number s < 2 ^ bitCount s → Clear (recodeRules form w s places words)
-  admits l p q small =
-      let (ds, f) = form-exists w (number s) (bitCount s) (a .wide .0) small form (a .least) (a .most) in
-      (is-form, (is-width, ((λ h. omega arith), ((λ h. omega arith), ((λ h. omega arith), ((λ h. h ds f), tt))))))
+  pub admits : length s ≤ 66 → bitCount s + 1 ≤ places → markWords ≤ words → Clear (recodeRules form w s places words)
+  admits l p q = (is-form, (is-width, ((λ h. omega arith), ((λ h. omega arith), ((λ h. omega arith), tt)))))

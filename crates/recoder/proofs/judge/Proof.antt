@@ -7,7 +7,6 @@ use denote.Ref.{now}
 use Rattle.meaning.specs.Recoding.{recodeRules}
 use Rattle.forms.proofs.Refusals.{first-at, first-none}
 use Rattle.width.proofs.Widths.{known-bits, known-wide, known-bad}
-use Rattle.scalar.proofs.Bytes.{number-lt}
 use Rattle.recoder.specs.Judged.{Admits, Allowed}
 use Rattle.recoder.proofs.Refusals.{is-form, is-width, admits}
 use Rattle.recoder.proofs.judge.Statement.{statement}
@@ -75,14 +74,13 @@ returns-8 c =
     let p = c .before .before .before in
     let a = start p .args in
     let known = p .before .before .before .before in
-    let small = number-lt (now (a .s)) (λ i. known .before .before .before .shared-slice-known .given i .fits) in
     record {
       bits-is = known-bits (a .width) (known .known .ensures) (p .before .before .known2 .given .1);
       allowed = allowed p;
       short = omega arith;
       room = omega arith;
       marks = omega arith;
-      first = first-none (recodeRules (a .form) (a .width) (now (a .s)) (a .places) (a .words)) (admits (a .form) (a .width) (now (a .s)) (a .places) (a .words) (allowed p) (omega arith) (omega arith) (omega arith) small);
+      first = first-none (recodeRules (a .form) (a .width) (now (a .s)) (a .places) (a .words)) (admits (a .form) (a .width) (now (a .s)) (a .places) (a .words) (allowed p) (omega arith) (omega arith) (omega arith));
     }
 
 pub judge-spec : {M : Type 1} → statement M
