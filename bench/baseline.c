@@ -143,13 +143,13 @@ static string sweep(string d, const uint8_t *s, size_t bytes, unsigned w, size_t
     return d;
 }
 
-/* The closest form is wMOF but for one window, w above the lowest set bit. If it opens there and leads with 1, it is worth one less, and the lowest set bit ends the string. */
-static string closest(string d, const uint8_t *s, size_t bytes, unsigned w) {
+/* A closest form is wMOF but for one window, w above the lowest set bit. If it opens there with the two bits in `lead`, it is worth one less, and the lowest set bit ends the string. */
+static string closest(string d, const uint8_t *s, size_t bytes, unsigned w, unsigned lead) {
     size_t low = lowest(s, bytes), tie = low + w;
     d = sweep(d, s, bytes, w, tie + 1);
     if (d.left == tie + 1) {
         unsigned bits = window_at(s, bytes, tie, w);
-        if (bits >> (w - 1) == 2) {
+        if (bits >> (w - 1) == lead) {
             put_window(&d, w, bits, 1);
             put(&d, low, 1);
             return d;
@@ -161,7 +161,7 @@ static string closest(string d, const uint8_t *s, size_t bytes, unsigned w) {
 sarvundole_tally baseline_recode(uint8_t form, uint8_t width, const uint8_t *scalar, size_t bytes, int8_t *digits, size_t places,
                                  uint64_t *marks, size_t words) {
     sarvundole_tally t = {0, 0, 0, 0};
-    if (form < 1 || form > 4) t.refusal = 1;
+    if (form < 1 || form > 5) t.refusal = 1;
     else if (bad_width(width) || (form == SARVUNDOLE_MOF && width != 2)) t.refusal = 2;
     else if (bytes > SARVUNDOLE_MOST_BYTES) t.refusal = 3;
     else if (places < 8 * bytes + 1) t.refusal = 4;
@@ -173,7 +173,7 @@ sarvundole_tally baseline_recode(uint8_t form, uint8_t width, const uint8_t *sca
     if (form == SARVUNDOLE_MOF) d = mof(d, scalar, bytes);
     else if (form == SARVUNDOLE_WNAF) d = wnaf(d, scalar, bytes, width);
     else if (form == SARVUNDOLE_WMOF) d = sweep(d, scalar, bytes, width, 0);
-    else d = closest(d, scalar, bytes, width);
+    else d = closest(d, scalar, bytes, width, form == SARVUNDOLE_CLOSEST ? 2 : 1);
     t.weight = (uint16_t)d.weight;
     t.top = (uint16_t)d.top;
     return t;

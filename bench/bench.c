@@ -122,7 +122,7 @@ static void accepted(input *in, uint8_t form, uint8_t width, size_t bytes) {
 
 /* The same with a fault here and there, so that each refusal comes up. */
 static void any(input *in) {
-    uint8_t form = (uint8_t)(1 + chance(4));
+    uint8_t form = (uint8_t)(1 + chance(5));
     accepted(in, form, (uint8_t)(form == 1 ? 2 : 2 + chance(7)), chance(SARVUNDOLE_MOST_BYTES + 1));
     in->calls = (uint16_t)chance(600);
     if (!chance(4)) in->base = chance(140);
@@ -244,6 +244,7 @@ int main(int words, char **given) {
         {"recode wNAF", recode, 2, {2, 4, 5, 6, 8}},
         {"recode wMOF", recode, 3, {2, 4, 5, 6, 8}},
         {"recode closest", recode, 4, {2, 4, 5, 6, 8}},
+        {"recode closest, smaller", recode, 5, {2, 4, 5, 6, 8}},
         {"check", check, 2, {2, 4, 5, 6, 8}},
         {"check_nonadjacent", check_nonadjacent, 2, {2, 4, 5, 6, 8}},
         {"tape", tape, 2, {2, 4, 5, 6, 8}},

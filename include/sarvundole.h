@@ -32,18 +32,19 @@
 extern "C" {
 #endif
 
-/* The four forms. */
+/* The forms. */
 enum sarvundole_form {
     SARVUNDOLE_MOF = 1,    /* the digit at place j is d_(j-1) - d_j; its width is 2 */
     SARVUNDOLE_WNAF = 2,   /* any w consecutive places hold at most one nonzero */
     SARVUNDOLE_WMOF = 3,   /* windows of w places from the top down */
-    SARVUNDOLE_CLOSEST = 4 /* the closest u * 2^i is taken off, on a tie the one of larger absolute value */
+    SARVUNDOLE_CLOSEST = 4, /* the closest u * 2^i is taken off, on a tie the one of larger absolute value */
+    SARVUNDOLE_CLOSEST_SMALLER = 5 /* the same, on a tie the one of smaller absolute value */
 };
 
 /* The refusals. 6 was struck, since n + 1 places always suffice, and is not used again; 16 is the line program's. */
 enum sarvundole_refusal {
     SARVUNDOLE_ACCEPTED = 0,
-    SARVUNDOLE_BAD_FORM = 1,         /* form is not 1..4 */
+    SARVUNDOLE_BAD_FORM = 1,         /* form is not 1..5 */
     SARVUNDOLE_BAD_WIDTH = 2,        /* width outside 2..8, or not 2 with form 1; in the search, width not 2 or 3 */
     SARVUNDOLE_LONG_SCALAR = 3,      /* scalar over 66 bytes; in the search, number over 127 */
     SARVUNDOLE_FEW_PLACES = 4,       /* digit buffer under n + 1 places */
@@ -63,7 +64,7 @@ enum sarvundole_refusal {
 static inline const char *sarvundole_refusal_words(unsigned refusal) {
     switch (refusal) {
     case SARVUNDOLE_ACCEPTED: return "accepted";
-    case SARVUNDOLE_BAD_FORM: return "the form is not 1 to 4";
+    case SARVUNDOLE_BAD_FORM: return "the form is not 1 to 5";
     case SARVUNDOLE_BAD_WIDTH: return "the width is not one that this call takes";
     case SARVUNDOLE_LONG_SCALAR: return "the scalar is over 66 bytes, or the number over 127";
     case SARVUNDOLE_FEW_PLACES: return "the digit buffer is too short";

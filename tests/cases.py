@@ -9,11 +9,11 @@ import itertools
 import random
 
 import second
-from second import CLOSEST, LEAST_WIDTH, MOF, MOST_BYTES, MOST_PLACES, MOST_WIDTH, MOST_WORDS, WMOF, WNAF
+from second import CLOSEST, LEAST_WIDTH, MOF, MOST_BYTES, MOST_PLACES, MOST_WIDTH, MOST_WORDS, SMALLER, WMOF, WNAF
 
 SEED = 20040815
 WIDTHS = range(LEAST_WIDTH, MOST_WIDTH + 1)
-FORMS_AND_WIDTHS = [(MOF, LEAST_WIDTH)] + [(form, width) for form in (WNAF, WMOF, CLOSEST) for width in WIDTHS]
+FORMS_AND_WIDTHS = [(MOF, LEAST_WIDTH)] + [(form, width) for form in (WNAF, WMOF, CLOSEST, SMALLER) for width in WIDTHS]
 
 
 # ---- lines, by what they ask
@@ -67,8 +67,14 @@ KNOWN = [  # document 01, P1 to P10: scalar, width, forms, nonzero digits by pla
     (b"\x01\x5d", 4, [WNAF], {9: 1, 5: -5, 0: -3}),
     (b"\x01\x5d", 4, [WMOF, CLOSEST], {6: 5, 2: 7, 0: 1}),
     (b"\xff", 8, [WNAF, WMOF, CLOSEST], {8: 1, 0: -1}),
-    (b"", 2, [MOF, WNAF, WMOF, CLOSEST], {}),
+    (b"", 2, [MOF, WNAF, WMOF, CLOSEST, SMALLER], {}),
     (b"\x03", 2, [MOF], {2: 1, 0: -1}),
+    # where the two tie rules part
+    (b"\xff", 8, [SMALLER], {1: 127, 0: 1}),
+    (b"\x05", 3, [CLOSEST], {1: 3, 0: -1}),
+    (b"\x05", 3, [SMALLER], {2: 1, 0: 1}),
+    (b"\x01\x7b", 3, [CLOSEST], {7: 3, 1: -3, 0: 1}),
+    (b"\x01\x7b", 3, [SMALLER], {7: 3, 2: -1, 0: -1}),
 ]
 
 KNOWN_TAPES = [  # P11, P12: scalar, width, words, modulus, base, residue, multiples
@@ -112,7 +118,7 @@ WORKED = [
     ("003, section 3.4", 2392158554, 3, [WNAF], "1 0 0 1 0 0 0 -1 0 0 -3 0 0 -3 0 0 3 0 0 -1 0 0 0 1 0 0 3 0 0 0 -3 0"),
 ]
 
-# Strings that a paper gives for a number without naming one of the four forms: they are legal and worth it.
+# Strings that a paper gives for a number without naming one of the forms: they are legal and worth it.
 WORTH = [
     ("001, example 1", 57, 2, "1 0 0 -1 0 0 1"),
     ("001, example 1", 22, 2, "1 0 -1 0 -1 0"),
@@ -241,7 +247,7 @@ def recode_edges():
     for width in range(256):
         yield recode_frame(WNAF, width, b"\x0d")
         yield recode_frame(MOF, width, b"\x0d")
-    for form, width, length in itertools.product((0, 1, 2, 5, 255), (0, 1, 2, 3, 8, 9), (1, 66, 67, 69)):
+    for form, width, length in itertools.product((0, 1, 2, 6, 255), (0, 1, 2, 3, 8, 9), (1, 66, 67, 69)):
         yield recode_frame(form, width, b"\x80" * length)
 
 
@@ -514,7 +520,7 @@ def cross_check():
     for n, width in itertools.product(range(128), (2, 3)):
         scalar = bytes([n])
         yield search(width, n)
-        for form in (WNAF, WMOF, CLOSEST):
+        for form in (WNAF, WMOF, CLOSEST, SMALLER):
             yield recode_fitting(form, width, scalar)
             (_, _, weighs, _), _, _ = second.recode(form, width, scalar, [0] * 9, [0] * 9)
             assert (0, weighs) == second.search(n, width)
@@ -595,7 +601,7 @@ def any_check(rng):
         scalar = bytes(rng.randrange(3)) + shortest(n)
     else:
         scalar = scalar_like(rng, min(some_length(rng), 66))
-        digits = second.form_digits(rng.choice([WNAF, WMOF, CLOSEST]), width, scalar)
+        digits = second.form_digits(rng.choice([WNAF, WMOF, CLOSEST, SMALLER]), width, scalar)
     kind = rng.randrange(8)
     if kind == 0 and digits:
         digits[rng.randrange(len(digits))] = rng.randint(-128, 127)

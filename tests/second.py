@@ -51,7 +51,7 @@ MOST_BYTES, MOST_PLACES, MOST_WORDS = 66, 529, 1057
 MARK_WORDS, MARK_BITS = 9, 64
 SEARCH_PLACES, SEARCH_MOST = 9, 127
 MOST_CHARACTERS = 144
-FORMS = MOF, WNAF, WMOF, CLOSEST = 1, 2, 3, 4
+FORMS = MOF, WNAF, WMOF, CLOSEST, SMALLER = 1, 2, 3, 4, 5
 
 
 # ---- scalars and digits
@@ -83,7 +83,7 @@ def top(digits):
     return max((j + 1 for j, d in enumerate(digits) if d != 0), default=0)
 
 
-# ---- the four forms, on n + 1 places
+# ---- the forms, on n + 1 places
 def mof(n, bits):
     """The digit at place j is d_(j-1) - d_j."""
     return [bit(n, j - 1) - bit(n, j) for j in range(bits + 1)]
@@ -136,14 +136,14 @@ def wmof(n, bits, width):
     return digits
 
 
-def nearest(r, width):
-    """The candidate u * 2^i closest to r, the one of larger absolute value on a tie, as (u, i).
+def nearest(r, width, favoured):
+    """The candidate u * 2^i closest to r, the favoured one on a tie, as (u, i): 1 for the smaller absolute value, -1 for the larger.
 
     With 2^b the power of two next above |r|, only i from b - w to b are tried: 2^(b-1) is at most |r|, so it is nearer
     than anything smaller, and below i = b - w every candidate is smaller; 2^b is nearer than anything larger."""
     above = abs(r).bit_length()
     tried = [
-        (abs(r - u * 2**i), -abs(u * 2**i), u, i)
+        (abs(r - u * 2**i), favoured * abs(u * 2**i), u, i)
         for i in range(max(0, above - width), above + 1)
         for u in digit_set(width)
         if u != 0
@@ -152,11 +152,11 @@ def nearest(r, width):
     return u, i
 
 
-def closest(n, bits, width):
+def closest(n, bits, width, favoured=-1):
     """While the remaining number is not 0, the closest candidate is put down and subtracted."""
     digits = [0] * (bits + 1)
     while n != 0:
-        u, i = nearest(n, width)
+        u, i = nearest(n, width, favoured)
         assert digits[i] == 0
         digits[i] = u
         n -= u * 2**i
@@ -167,6 +167,8 @@ def form_digits(form, width, scalar):
     n, bits = number(scalar), 8 * len(scalar)
     if form == MOF:
         return mof(n, bits)
+    if form == SMALLER:
+        return closest(n, bits, width, favoured=1)
     return {WNAF: wnaf, WMOF: wmof, CLOSEST: closest}[form](n, bits, width)
 
 
@@ -540,8 +542,9 @@ def check_nearest():
     """The candidates that `nearest` tries are enough: with every place tried the answer is the same."""
     for width in (2, 3, 4):
         for r in range(-300, 301):
-            every = [(abs(r - u * 2**i), -abs(u * 2**i), u, i) for i in range(12) for u in digit_set(width) if u != 0]
-            assert r == 0 or nearest(r, width) == min(every)[2:]
+            for favoured in (-1, 1):
+                every = [(abs(r - u * 2**i), favoured * abs(u * 2**i), u, i) for i in range(12) for u in digit_set(width) if u != 0]
+                assert r == 0 or nearest(r, width, favoured) == min(every)[2:]
 
 
 def check_tapes():
@@ -549,7 +552,7 @@ def check_tapes():
     for n in range(0, 65536, 97):
         scalar = n.to_bytes(2, "big")
         for width in range(LEAST_WIDTH, MOST_WIDTH + 1):
-            for form in (WNAF, WMOF, CLOSEST):
+            for form in (WNAF, WMOF, CLOSEST, SMALLER):
                 digits = form_digits(form, width, scalar)
                 (refusal, _, count, doublings, additions), words = tape(width, digits, [0] * MOST_WORDS)
                 assert refusal == 0 and tape_value(words[:count]) == worth(digits) == n

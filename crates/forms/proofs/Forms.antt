@@ -11,8 +11,8 @@ use lib.ListN.{length}
 use Rattle.meaning.specs.Digits.{worth, weight, allIn, largest}
 use Rattle.meaning.specs.Mof as Mof
 use Rattle.meaning.specs.Wmof as Wmof
-use Rattle.meaning.specs.Closest.{larger}
-use Rattle.meaning.specs.Forms.{Kind, mof, wnaf, wmof, closest, Has, Asked, one, nothing, asked, Given, Form}
+use Rattle.meaning.specs.Closest.{larger, smaller}
+use Rattle.meaning.specs.Forms.{Kind, mof, wnaf, wmof, closest, Has, Asked, one, nothing, asked, mostForm, Given, Form}
 use Rattle.forms.specs.Wnaf.{wnafFrom}
 use Rattle.forms.specs.Closest.{closestOf}
 use Rattle.forms.proofs.Mof.{mof-length, mof-digits, mof-worth}
@@ -78,15 +78,16 @@ module _ (w N n : ℕ) (two : 2 ≤ w) where
     kind-light (closest tie) h ds a = closest-light w N two a
 
 -- ---- by number
--- 1 to 4 ask for a form, and 1 alone for MOF
-pub asked-one : (f : ℕ) → 1 ≤ f → f ≤ 4 → (k : Kind) × (asked f ≡ one k)
+-- 1 to 5 ask for a form, and 1 alone for MOF
+pub asked-one : (f : ℕ) → 1 ≤ f → f ≤ mostForm → (k : Kind) × (asked f ≡ one k)
 unfolding asked
 asked-one zero h l = absurd (omega arith)
 asked-one (suc zero) h l = (mof, refl)
 asked-one (suc (suc zero)) h l = (wnaf, refl)
 asked-one (suc (suc (suc zero))) h l = (wmof, refl)
 asked-one (suc (suc (suc (suc zero)))) h l = (closest larger, refl)
-asked-one (suc (suc (suc (suc (suc f))))) h l = absurd (omega arith)
+asked-one (suc (suc (suc (suc (suc zero))))) h l = (closest smaller, refl)
+asked-one (suc (suc (suc (suc (suc (suc f)))))) h l = absurd (omega arith)
 
 asked-mof : (f : ℕ) → asked f ≡ one mof → f ≡ 1
 unfolding asked
@@ -95,7 +96,8 @@ asked-mof (suc zero) e = refl
 asked-mof (suc (suc zero)) e = let z : _≡_ {A = ℕ} 0 1 = cc in absurd (omega arith)
 asked-mof (suc (suc (suc zero))) e = let z : _≡_ {A = ℕ} 0 1 = cc in absurd (omega arith)
 asked-mof (suc (suc (suc (suc zero)))) e = let z : _≡_ {A = ℕ} 0 1 = cc in absurd (omega arith)
-asked-mof (suc (suc (suc (suc (suc f))))) e = let z : _≡_ {A = ℕ} 0 1 = cc in absurd (omega arith)
+asked-mof (suc (suc (suc (suc (suc zero))))) e = let z : _≡_ {A = ℕ} 0 1 = cc in absurd (omega arith)
+asked-mof (suc (suc (suc (suc (suc (suc f)))))) e = let z : _≡_ {A = ℕ} 0 1 = cc in absurd (omega arith)
 
 module _ (w N n : ℕ) (two : 2 ≤ w) where
   pub form-same : (f : ℕ) (ds es : List ℤ) → Form f w N n ds → Form f w N n es → ds ≡ es
@@ -107,7 +109,7 @@ module _ (w N n : ℕ) (two : 2 ≤ w) where
 
   module _ (small : N < 2 ^ n) where
     -- n + 1 places always suffice
-    pub form-exists : (f : ℕ) → 1 ≤ f → f ≤ 4 → (ds : List ℤ) × Form f w N n ds
+    pub form-exists : (f : ℕ) → 1 ≤ f → f ≤ mostForm → (ds : List ℤ) × Form f w N n ds
     form-exists f h l = let (k, e) = asked-one f h l in (stringOf k w N n, rw e (kind-is w N n two small k))
 
     module _ (f : ℕ) (ds : List ℤ) (F : Form f w N n ds) where

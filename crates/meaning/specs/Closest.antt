@@ -1,4 +1,4 @@
--- Form 4, closest: while the remaining number is not 0, the candidate closest to it is taken off. The tie rule is a parameter; form 4 takes the larger.
+-- Forms 4 and 5, closest: while the remaining number is not 0, the candidate closest to it is taken off. The tie rule is a parameter; form 4 takes the larger, form 5 the smaller.
 -- That a candidate is closest, that there is one only, that no two steps use one place and that n + 1 places suffice are theorems.
 -- Assumes nothing.
 use mathlib.Core.Path.{_≡_}

@@ -8,7 +8,7 @@ use Rattle.meaning.specs.Mof as Mof
 use Rattle.meaning.specs.Wnaf as Wnaf
 use Rattle.meaning.specs.Wmof as Wmof
 use Rattle.meaning.specs.Closest as Closest
-use Rattle.meaning.specs.Closest.{Tie, larger}
+use Rattle.meaning.specs.Closest.{Tie, larger, smaller}
 
 pub data Kind : Type 0 where
   mof : Kind
@@ -23,7 +23,7 @@ Has wnaf w N n ds = Wnaf.Wnaf w N n ds
 Has wmof w N n ds = ds ≡ Wmof.wmof w N n
 Has (closest tie) w N n ds = Closest.Closest tie w N n ds
 
--- what a number asks for: 1 MOF, 2 wNAF, 3 wMOF, 4 closest, on a tie the larger
+-- what a number asks for: 1 MOF, 2 wNAF, 3 wMOF, 4 closest, on a tie the larger, 5 closest, on a tie the smaller
 pub data Asked : Type 0 where
   one : Kind → Asked
   nothing : Asked
@@ -34,7 +34,12 @@ asked (suc zero) = one mof
 asked (suc (suc zero)) = one wnaf
 asked (suc (suc (suc zero))) = one wmof
 asked (suc (suc (suc (suc zero)))) = one (closest larger)
-asked (suc (suc (suc (suc (suc f))))) = nothing
+asked (suc (suc (suc (suc (suc zero))))) = one (closest smaller)
+asked (suc (suc (suc (suc (suc (suc f)))))) = nothing
+
+-- the last number that asks for a form
+abbrev pub mostForm : ℕ
+mostForm = 5
 
 -- ds has what is asked for
 abbrev pub Given : Asked → (w N n : ℕ) → List ℤ → Type 0

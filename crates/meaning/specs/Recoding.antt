@@ -8,7 +8,7 @@ use lib.IntN.{ℤ}
 use lib.ListN.{length, drop}
 use Rattle.meaning.specs.Scalars.{number, bitCount}
 use Rattle.meaning.specs.Digits.{leastWidth, mostWidth, nonzero, weight, top, listed, Tally}
-use Rattle.meaning.specs.Forms.{Form}
+use Rattle.meaning.specs.Forms.{Form, mostForm}
 use Rattle.meaning.specs.Refusals.{Rule, plain, First, longScalar}
 
 -- ---- marks
@@ -27,11 +27,11 @@ unfoldable pub marksOf : List ℤ → List ℕ
 marksOf ds = listed (λ q. marked 64 (drop (64 * q) ds)) 0 markWords
 
 -- ---- refusals
--- 1: form is not 1..4; 2: width outside 2..8, or not 2 with form 1; 3: scalar over 66 bytes; 4: digit buffer under n + 1 places;
+-- 1: form is not 1..5; 2: width outside 2..8, or not 2 with form 1; 3: scalar over 66 bytes; 4: digit buffer under n + 1 places;
 -- 5: marks buffer under 9 words
 abbrev pub recodeRules : (form w : ℕ) (s : List ℕ) (places words : ℕ) → List Rule
 recodeRules form w s places words =
-    plain 1 ((form < 1) ⊎ (4 < form))
+    plain 1 ((form < 1) ⊎ (mostForm < form))
     ∷ plain 2 (((w < leastWidth) ⊎ (mostWidth < w)) ⊎ ((form ≡ 1) × (w ≢ 2)))
     ∷ longScalar s
     ∷ plain 4 (places < bitCount s + 1)

@@ -1,4 +1,4 @@
--- Demand 3. For wNAF, wMOF and the closest form at a width from 2 to 8: no finite string over the width's digits, of any length, that is worth the scalar has fewer
+-- Demand 3. For wNAF, wMOF and both closest forms, 2 to 5, at a width from 2 to 8: no finite string over the width's digits, of any length, that is worth the scalar has fewer
 -- nonzero digits; with n bits lent there are at most (n + w) / w of them, rounded down; the tape holds one addition or subtraction fewer than that number, none for zero, and
 -- one doubling for each place under the highest nonzero digit; and the run does those steps and reports them. From the calls' promises alone. Assumes nothing.
 use mathlib.Core.Path.{_≡_, ap, _∙_}

@@ -14,6 +14,7 @@ use Rattle.laws.proofs.Choices.{not-below}
 use Rattle.laws.proofs.Division.{floor}
 use Rattle.meaning.specs.Scalars.{number, bitCount}
 use Rattle.meaning.specs.Digits.{leastWidth, mostWidth, largest, entries, inSet, worth, weight, top, Tally}
+use Rattle.meaning.specs.Forms.{mostForm}
 use Rattle.meaning.specs.Refusals.{Rule, plain, lowest, numberOf, Lowest, Applies, Fails, First, granted, kept, badWidth}
 use Rattle.meaning.specs.Recoding.{markWords, marksOf, recodeRules}
 use Rattle.meaning.specs.Checking.{BadDigit, badDigit, Crowded, checkRules, nonadjacentRules}
@@ -110,7 +111,7 @@ bad? m ds = among (BadDigit m ds) one (length ds) (λ p b. b .within)
 -- ---- recode, of a scalar of bytes
 recode-decided : (form w : ℕ) (s : List ℕ) (places words : ℕ) → AllDecided (recodeRules form w s places words)
 recode-decided form w s places words = (
-  by (or? (decLt form 1) (decLt 4 form)),
+  by (or? (decLt form 1) (decLt mostForm form)),
   λ _. (
     by (or? (or? (decLt w leastWidth) (decLt mostWidth w)) (and? (ℕ-discrete form 1) (not? (ℕ-discrete w 2)))),
     λ _. (

@@ -16,7 +16,7 @@ use Rattle.meaning.specs.Digits.{nonzero, weight, top, listed, inSet, allIn, la
 use Rattle.meaning.specs.Mof.{mof}
 use Rattle.meaning.specs.Windows.{windowWorth, shrink}
 use Rattle.meaning.specs.Wmof.{wmofUnder, wmof}
-use Rattle.meaning.specs.Forms.{Asked, one, nothing, asked, Form}
+use Rattle.meaning.specs.Forms.{Asked, one, nothing, asked, mostForm, Form}
 use Rattle.meaning.specs.Recoding.{markWords, marksOf, recodeRules}
 use Rattle.meaning.specs.Checking.{BadDigit}
 use Rattle.meaning.specs.Words.{stepOf}
@@ -54,7 +54,7 @@ pub data Case : Type 0 where
 abbrev zeros : ℕ → List ℤ
 zeros n = replicate n (pos 0)
 
--- P1 to P10, place 0 first, on all places that the scalar's bytes give; then P11 and P12, the tapes of P2 and P5 and their runs
+-- P1 to P10, place 0 first, on all places that the scalar's bytes give; then strings at which the two tie rules part; then P11 and P12, the tapes of P2 and P5 and their runs
 pub cases : List Case
 cases =
     string (1 ∷ []) 2 (13 ∷ []) (negsuc 0 ∷ pos 1 ∷ negsuc 0 ∷ pos 0 ∷ pos 1 ∷ zeros 4)
@@ -67,6 +67,11 @@ cases =
     ∷ string (2 ∷ 3 ∷ 4 ∷ []) 8 (255 ∷ []) (negsuc 0 ∷ zeros 7 ++ (pos 1 ∷ []))
     ∷ every [] (pos 0 ∷ [])
     ∷ string (1 ∷ []) 2 (3 ∷ []) (negsuc 0 ∷ pos 0 ∷ pos 1 ∷ zeros 6)
+    ∷ string (5 ∷ []) 8 (255 ∷ []) (pos 1 ∷ pos 127 ∷ zeros 7)
+    ∷ string (4 ∷ []) 3 (5 ∷ []) (negsuc 0 ∷ pos 3 ∷ zeros 7)
+    ∷ string (5 ∷ []) 3 (5 ∷ []) (pos 1 ∷ pos 0 ∷ pos 1 ∷ zeros 6)
+    ∷ string (4 ∷ []) 3 (1 ∷ 123 ∷ []) (pos 1 ∷ negsuc 2 ∷ zeros 5 ++ (pos 3 ∷ zeros 9))
+    ∷ string (5 ∷ []) 3 (1 ∷ 123 ∷ []) (negsuc 0 ∷ pos 0 ∷ negsuc 0 ∷ zeros 4 ++ (pos 3 ∷ zeros 9))
     ∷ steps 2 (pos 1 ∷ pos 0 ∷ negsuc 0 ∷ pos 0 ∷ pos 1 ∷ zeros 4) (0x1000 ∷ 0 ∷ 0 ∷ 0x4000 ∷ 0 ∷ 0 ∷ 0x3000 ∷ []) 1000 7 91 4 2 (7 ∷ [])
     ∷ steps 3 (pos 0 ∷ negsuc 2 ∷ pos 0 ∷ pos 0 ∷ pos 3 ∷ zeros 4) (0x1001 ∷ 0 ∷ 0 ∷ 0 ∷ 0x4001 ∷ 0 ∷ []) 10 9 8 4 1 (9 ∷ 7 ∷ [])
     ∷ []
@@ -108,23 +113,23 @@ Holds (steps w ds ws m g x doubled added multiples) =
 -- ---- a string in a form
 -- the form at the width, by a test
 abbrev pub fine : ℕ → ℕ → Bool
-fine f w = (leb 1 f && leb f 4) && ((leb 2 w && leb w 8) && (not (eqb f 1) || eqb w 2))
+fine f w = (leb 1 f && leb f mostForm) && ((leb 2 w && leb w 8) && (not (eqb f 1) || eqb w 2))
 
 pub allowed : (f w : ℕ) → T (fine f w) → Allowed f w
 allowed f w t =
-    let (a, b) = and-both (leb 1 f && leb f 4) ((leb 2 w && leb w 8) && (not (eqb f 1) || eqb w 2)) t in
-    let (c, d) = and-both (leb 1 f) (leb f 4) a in
+    let (a, b) = and-both (leb 1 f && leb f mostForm) ((leb 2 w && leb w 8) && (not (eqb f 1) || eqb w 2)) t in
+    let (c, d) = and-both (leb 1 f) (leb f mostForm) a in
     let (e, g) = and-both (leb 2 w && leb w 8) (not (eqb f 1) || eqb w 2) b in
     let (h, i) = and-both (leb 2 w) (leb w 8) e in
     record {
       least = leb→le 1 f c;
-      most = leb→le f 4 d;
+      most = leb→le f mostForm d;
       wide = (leb→le 2 w h, leb→le w 8 i);
       narrow = λ z. ⊎-elim (λ x. absurd (T-not (eqb f 1) x (equal f 1 z))) (λ x. eqb→eq w 2 x) (or-either (not (eqb f 1)) (eqb w 2) g);
     }
 
 -- what is computed has the form
-pub string-formed : (f w N n : ℕ) → 2 ≤ w → N < 2 ^ n → 1 ≤ f → f ≤ 4 → Form f w N n (stringBy f w N n)
+pub string-formed : (f w N n : ℕ) → 2 ≤ w → N < 2 ^ n → 1 ≤ f → f ≤ mostForm → Form f w N n (stringBy f w N n)
 string-formed f w N n two small a b = let (k, e) = asked-one f a b in rw e (kind-is w N n two small k)
 
 -- an outcome that keeps the promise is the one that the form's string gives
@@ -267,7 +272,8 @@ no-bytes (suc zero) w a = refl
 no-bytes (suc (suc zero)) w a = refl
 no-bytes (suc (suc (suc zero))) w a = refl
 no-bytes (suc (suc (suc (suc zero)))) w a = refl
-no-bytes (suc (suc (suc (suc (suc f))))) w a = absurd (omega (arith, a .most))
+no-bytes (suc (suc (suc (suc (suc zero))))) w a = refl
+no-bytes (suc (suc (suc (suc (suc (suc f)))))) w a = absurd (omega (arith, a .most))
 
 -- every case computes: the numbers, and each form's string by `refl`
 all-fit : All Fits cases
@@ -282,6 +288,11 @@ all-fit =
     & (lit≤ tt, lit< tt, (tt, refl) & (tt, refl) & tt)
     & (lit≤ tt, lit< tt, (tt, refl) & (tt, refl) & (tt, refl) & tt)
     & (lit≤ tt, lit< tt, no-bytes)
+    & (lit≤ tt, lit< tt, (tt, refl) & tt)
+    & (lit≤ tt, lit< tt, (tt, refl) & tt)
+    & (lit≤ tt, lit< tt, (tt, refl) & tt)
+    & (lit≤ tt, lit< tt, (tt, refl) & tt)
+    & (lit≤ tt, lit< tt, (tt, refl) & tt)
     & (lit≤ tt, lit< tt, (tt, refl) & tt)
     & eleventh
     & twelfth

@@ -17,12 +17,12 @@ use Rattle.meaning.specs.Wmof.{wmof, wmofUnder}
 use Rattle.forms.specs.Wnaf.{wnafDigit, wnafNext, wnafFrom}
 use Rattle.forms.specs.Closest.{closestOf, closestUnder}
 use Rattle.forms.proofs.Forms.{form-same}
-use Rattle.meaning.specs.Forms.{asked}
+use Rattle.meaning.specs.Forms.{asked, mostForm}
 use Rattle.forms.proofs.Forms.{stringOf}
 use Rattle.promises.proofs.Known.{stringBy, string-formed}
 
 -- a string that differs from the form's in the size of a digit
-not-it : (f : ℕ) → 1 ≤ f → f ≤ 4 → (ds : List ℤ) (place : ℕ) → natAbs (getD ds place (pos 0)) ≢ natAbs (getD (stringBy f 2 13 8) place (pos 0)) → Form f 2 13 8 ds → ⊥
+not-it : (f : ℕ) → 1 ≤ f → f ≤ mostForm → (ds : List ℤ) (place : ℕ) → natAbs (getD ds place (pos 0)) ≢ natAbs (getD (stringBy f 2 13 8) place (pos 0)) → Form f 2 13 8 ds → ⊥
 not-it f l m ds place n F = n (ap (λ x. natAbs (getD x place (pos 0))) (form-same 2 13 8 (lit≤ tt) f ds (stringBy f 2 13 8) F (string-formed f 2 13 8 (lit≤ tt) (lit< tt) l m)))
 
 -- 1 0 -1 0 1 is wNAF's and the closest form's, and not MOF's
@@ -39,6 +39,11 @@ wnaf-not-wmof = not-it 2 (lit≤ tt) (lit≤ tt) _ 1 (λ e. omega arith)
 pub closest-not-wmof : Form 4 2 13 8 (negsuc 0 ∷ negsuc 0 ∷ pos 0 ∷ pos 0 ∷ pos 1 ∷ pos 0 ∷ pos 0 ∷ pos 0 ∷ pos 0 ∷ []) → ⊥
 unfolding asked stringOf closestOf closestUnder windowWorth shrink trailingZeros
 closest-not-wmof = not-it 4 (lit≤ tt) (lit≤ tt) _ 1 (λ e. omega arith)
+
+-- nor are the two tie rules one: with the smaller candidate 13 is not 1 0 -1 0 1
+pub smaller-not-larger : Form 5 2 13 8 (pos 1 ∷ pos 0 ∷ negsuc 0 ∷ pos 0 ∷ pos 1 ∷ pos 0 ∷ pos 0 ∷ pos 0 ∷ pos 0 ∷ []) → ⊥
+unfolding asked stringOf closestOf closestUnder windowWorth shrink trailingZeros
+smaller-not-larger = not-it 5 (lit≤ tt) (lit≤ tt) _ 1 (λ e. omega arith)
 
 -- stopping at the last full window loses the final -1
 pub wmof-not-cut : Form 3 2 13 8 (pos 0 ∷ negsuc 0 ∷ pos 0 ∷ pos 0 ∷ pos 1 ∷ pos 0 ∷ pos 0 ∷ pos 0 ∷ pos 0 ∷ []) → ⊥

@@ -8,8 +8,8 @@ use native.Mathlib.Decide.{ℕ-discrete}
 use lib.IntN.{ℤ}
 use Rattle.meaning.specs.Mof.{mof}
 use Rattle.meaning.specs.Wmof.{wmof}
-use Rattle.meaning.specs.Closest.{larger}
-use Rattle.meaning.specs.Forms.{asked, Has, Form}
+use Rattle.meaning.specs.Closest.{larger, smaller}
+use Rattle.meaning.specs.Forms.{asked, mostForm, Has, Form}
 use Rattle.forms.specs.Wnaf.{wnafFrom}
 use Rattle.forms.specs.Closest.{closestOf}
 use Rattle.forms.proofs.Wnaf.{wnaf-is}
@@ -30,14 +30,19 @@ module _ (f w N n : ℕ) (ds : List ℤ) where
     unfolding asked Has
     is-wnaf e d = rw (e, d) (wnaf-is w N n two small)
 
-    pub is-closest : f ≡ 4 → ds ≡ closestOf larger w N n → Form f w N n ds
+    pub is-larger : f ≡ 4 → ds ≡ closestOf larger w N n → Form f w N n ds
     unfolding asked Has
-    is-closest e d = rw (e, d) (closest-is larger w N n two small)
+    is-larger e d = rw (e, d) (closest-is larger w N n two small)
+
+    pub is-smaller : f ≡ 5 → ds ≡ closestOf smaller w N n → Form f w N n ds
+    unfolding asked Has
+    is-smaller e d = rw (e, d) (closest-is smaller w N n two small)
 
     -- by the leading bit at which a tie turns
-    pub is-turned : (b : ℕ) → f ≢ 1 → f ≢ 2 → 1 ≤ f → f ≤ 4 → (f ≡ 3 → b ≡ 2) → (f ≡ 4 → b ≡ 1) → Turned b w N n ds → Form f w N n ds
-    is-turned b one other least most third fourth t = go (ℕ-discrete f 3)
+    pub is-turned : (b : ℕ) → f ≢ 1 → f ≢ 2 → 1 ≤ f → f ≤ mostForm → (f ≡ 3 → b ≡ 2) → (f ≡ 4 → b ≡ 1) → (f ≡ 5 → b ≡ 0) → Turned b w N n ds → Form f w N n ds
+    is-turned b one other least most third fourth fifth t = go (ℕ-discrete f 3) (ℕ-discrete f 4)
       where
-        go : Dec (f ≡ 3) → Form f w N n ds
-        go (yes e) = is-wmof e (t .never (third e))
-        go (no m) = let e : f ≡ 4 = omega arith in is-closest e (t .at-one (fourth e))
+        go : Dec (f ≡ 3) → Dec (f ≡ 4) → Form f w N n ds
+        go (yes e) _ = is-wmof e (t .never (third e))
+        go (no m) (yes e) = is-larger e (t .at-one (fourth e))
+        go (no m) (no k) = let e : f ≡ 5 = omega arith in is-smaller e (t .at-zero (fifth e))

@@ -6,13 +6,14 @@ use Prim.Native.Nat.{ℕ, _+_, _<_, _≤_}
 use native.Mathlib.Omega.{arith}
 use lib.ListN.{length}
 use Rattle.meaning.specs.Scalars.{bitCount}
+use Rattle.meaning.specs.Forms.{mostForm}
 use Rattle.meaning.specs.Recoding.{markWords, recodeRules}
 use Rattle.forms.proofs.Refusals.{Clear}
 use Rattle.recoder.specs.Judged.{Allowed}
 
 module _ (form w : ℕ) (s : List ℕ) (places words : ℕ) (a : Allowed form w) where
   -- the form and the width
-  pub is-form : (form < 1) ⊎ (4 < form) → ⊥
+  pub is-form : (form < 1) ⊎ (mostForm < form) → ⊥
   is-form = ⊎-elim (λ l. omega (arith, a .least)) (λ l. omega (arith, a .most))
 
   pub is-width : ((w < 2) ⊎ (8 < w)) ⊎ ((form ≡ 1) × (w ≢ 2)) → ⊥

@@ -5,6 +5,7 @@ use mathlib.Core.List.{List}
 use Prim.Native.Nat.{ℕ, _+_, _≤_}
 use lib.ListN.{length}
 use Rattle.meaning.specs.Scalars.{bitCount, mostBytes}
+use Rattle.meaning.specs.Forms.{mostForm}
 use Rattle.meaning.specs.Refusals.{First}
 use Rattle.meaning.specs.Recoding.{markWords, recodeRules}
 use Rattle.width.specs.declared.Width.{Width}
@@ -15,7 +16,7 @@ use Rattle.recoder.specs.declared.Judged.the-variants.{Goes, Refused}
 -- a form at a width that has it
 pub record Allowed (form w : ℕ) : Type 0 where
   pub least : 1 ≤ form
-  pub most : form ≤ 4
+  pub most : form ≤ mostForm
   pub wide : Wide w
   pub narrow : form ≡ 1 → w ≡ 2
 

@@ -1,4 +1,4 @@
-// Forms 3 and 4, wMOF and closest, from the top place down: a window at each place whose bit differs from the one under it. A stretch of the scalar tells at once
+// Forms 3 to 5, wMOF and the two closest, from the top place down: a window at each place whose bit differs from the one under it. A stretch of the scalar tells at once
 // all places where one may open. The forms differ at one window at most, which the closest form takes one lower at a tie.
 ghost use mathlib.Core.Path.{_≡_};
 ghost use Prim.Native.Nat.{_+_, _-_, _/_, _%_, _^_, _<_, _≤_};
