@@ -108,9 +108,10 @@ fn opening(w: Width, scalar: &[u8], place: usize) -> Taken
     requires { ⌜ (0 < place) × (place ≤ mostPlaces) ⌝ }
     ensures { λ r. ⌜ r ≡ opened (w .bits) (number (now (scalar .entry))) (place - 1) ⌝ }
 {
-    let bits = scalar::window(scalar, place - 1, w.bits());
-    if windows::opening::opens(w, bits) {
-        let found = windows::opening::placed(w, windows::look_up(w, bits), place);
+    let width = w.bits();
+    let bits = scalar::window(scalar, place - 1, width);
+    if windows::opening::opens(width, bits) {
+        let found = windows::opening::placed(width, windows::look_up(w, bits), place);
         return pass(place, found.unit, found.spot, found.left);
     }
     pass(place, 0, 0, place - 1)

@@ -24,10 +24,10 @@ use Rattle.forms.proofs.Mof.{mof-length, mof-at}
 use Rattle.forms.proofs.Rest.{rest, Differ, differ}
 use Rattle.forms.proofs.Wmof.{At}
 use Rattle.forms.proofs.Ties.{Lowest, lowest-bit, opens-some}
-use Rattle.forms.proofs.Loops.{from, from-same, from-open, from-last, last-at, from-wmof, from-closest}
+use Rattle.forms.proofs.Loops.{from, from-done, from-same, from-open, from-last, last-at, from-wmof, from-closest}
 use Rattle.windows.specs.declared.opening.Place.{Place}
 use Rattle.windows.proofs.Opened.{opened-at, opened-last, opened-leading, opened-second, leads, follows, Puts}
-use Rattle.recoder.specs.Sweeps.{Above, Clear, Highest, Swept, Untied, Turns, Settled, Turned, openings}
+use Rattle.recoder.specs.Sweeps.{Above, Clear, Highest, Swept, Untied, Turns, Turned, openings}
 use Rattle.recoder.proofs.Strings.{zero-at, same-none}
 use Rattle.recoder.proofs.Stretches.{same-low, same-high}
 
@@ -74,9 +74,6 @@ module _ (w N t i : ℕ) (two : 2 ≤ w) (low : 0 < N → Lowest N t) (tie : i �
   turn-odd = ap (λ x. windowBits w N x % 2) tie ∙ opened-last w N t ∙ lowest-bit N t (low (opens-some N i differs))
 
 -- where it does not, none does
-pub settled-none : {b w N t m : ℕ} {ds : List ℤ} → Clear m ds → Untied b w N t 0 m → Settled b w N t m ds m ds
-settled-none c u = record { same-length = refl; fewer = omega arith; clear = c; comes = refl; untied = u }
-
 module _ (w N t i : ℕ) {b s : ℕ} {r : Bool} (two : 2 ≤ w) (tie : i ≡ w + t) (seen : s ≡ windowBits w N i) (turns : Turns w s b r) where
   pub turn-none : {m : ℕ} → r ≡ false → Untied b w N t 0 m
   turn-none e j f h k n z =
@@ -88,14 +85,6 @@ module _ (w N t i : ℕ) {b s : ℕ} {r : Bool} (two : 2 ≤ w) (tie : i ≡ w +
   turn-some e =
       let (n, l) = turns .yes e in
       (λ x. n (leads w N i s two seen ∙ x ∙ sym (follows w N i s two seen)), sym (leads w N i s two seen) ∙ l)
-
--- over it none does, and with 2 none at all
-pub untied-over : (b w N t floor m : ℕ) → (b < 2 → floor ≡ t + w + 1) → Untied b w N t floor m
-untied-over b w N t floor m under i f h e n k = go (decLt b 2)
-  where
-    go : Dec (b < 2) → ⊥
-    go (yes l) = omega (arith, under l)
-    go (no l) = omega arith
 
 -- ---- all windows are written
 pub turned : (b w N n t : ℕ) (ds : List ℤ) → 2 ≤ w → N < 2 ^ n → t ≡ trailingZeros n N → from b w N t (n + 1) (replicate (n + 1) (pos 0)) ≡ ds → Turned b w N n ds
@@ -130,6 +119,12 @@ swept-more s r =
       clear = r .clear;
       comes = λ b t u. s .comes b t u ∙ r .comes b t (λ i f h. u i f (omega (arith, s .fewer)));
     }
+
+-- to the end
+pub swept-all : {w N m m′ : ℕ} {ds ds′ : List ℤ} (b t : ℕ) → Swept w N 0 m ds m′ ds′ → m′ ≤ 0 → Untied b w N t 0 m → from b w N t m ds ≡ ds′
+swept-all {w} {N} {m′ = m′} {ds′ = ds′} b t s none u =
+    let z : m′ ≡ 0 = omega arith in
+    s .comes b t u ∙ ap (λ x. from b w N t x ds′) z ∙ from-done b w N t ds′
 
 -- ---- places are passed
 -- whose bits are those under them

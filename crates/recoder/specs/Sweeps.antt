@@ -35,14 +35,6 @@ pub record Turns (w s b : ℕ) (r : Bool) : Type 0 where
   pub yes : r ≡ true → (leading w s ≢ second w s) × (leading w s ≡ b)
   pub no : r ≡ false → leading w s ≢ second w s → leading w s ≢ b
 
--- the window that may turn is written if it does: the buffer comes to the same string, and no window turns any more
-pub record Settled (b w N t m : ℕ) (ds : List ℤ) (m′ : ℕ) (ds′ : List ℤ) : Type 0 where
-  pub same-length : length ds′ ≡ length ds
-  pub fewer : m′ ≤ m
-  pub clear : Clear m′ ds′
-  pub comes : from b w N t m ds ≡ from b w N t m′ ds′
-  pub untied : Untied b w N t 0 m′
-
 -- MOF's digits stand from place m up
 pub record Above (N n m : ℕ) (ds : List ℤ) : Type 0 where
   pub same-length : length ds ≡ n + 1

@@ -33,14 +33,14 @@ pub fn difference(a: u32, b: u32) -> i8
 }
 
 // Window s, whose two leading bits are different, worked out without a branch: what it is worth less `less`, which is 0, or 1 at an odd window. With 0 it is the entry of s.
-pub fn work_out(w: Width, s: u32, less: u32) -> Window
-    requires { ⌜ Wide (w .bits) ⌝ }
-    requires { ⌜ s < 2 ^ (w .bits + 1) ⌝ }
-    requires { ⌜ leading (w .bits) s ≢ second (w .bits) s ⌝ }
+pub fn work_out(w: u32, s: u32, less: u32) -> Window
+    requires { ⌜ Wide w ⌝ }
+    requires { ⌜ s < 2 ^ (w + 1) ⌝ }
+    requires { ⌜ leading w s ≢ second w s ⌝ }
     requires { ⌜ less ≤ s % 2 ⌝ }
-    ensures { λ r. ⌜ Parts (w .bits) (oddPart (w .bits) (windowWorth (w .bits) s -ℤ pos less)) (twos (w .bits) (windowWorth (w .bits) s -ℤ pos less)) r ⌝ }
+    ensures { λ r. ⌜ Parts w (oddPart w (windowWorth w s -ℤ pos less)) (twos w (windowWorth w s -ℤ pos less)) r ⌝ }
 {
-    let full = 1u32 << w.bits();
+    let full = 1u32 << w;
     let half = (s + 1) / 2 - less;
     let k = u32::trailing_zeros(half);
     Window {

@@ -5,7 +5,6 @@ ghost use Rattle.meaning.specs.Digits.{mostPlaces};
 ghost use Rattle.width.specs.Widths.{Wide};
 ghost use Rattle.windows.specs.Openings.{Tells, Placed};
 use rows::Window;
-use width::Width;
 
 // A window's digit and its place, and how many places are left under the window.
 pub struct Place {
@@ -22,21 +21,20 @@ pub fn under(left: usize, span: usize) -> usize
 }
 
 // Whether window s opens: whether its two leading bits are different.
-pub fn opens(w: Width, s: u32) -> bool
-    requires { ⌜ Wide (w .bits) ⌝ }
-    ensures { λ r. ⌜ Tells (w .bits) s r ⌝ }
+pub fn opens(w: u32, s: u32) -> bool
+    requires { ⌜ Wide w ⌝ }
+    ensures { λ r. ⌜ Tells w s r ⌝ }
 {
-    let width = w.bits();
-    s >> width != (s >> (width - 1)) % 2
+    s >> w != (s >> (w - 1)) % 2
 }
 
 // Where the digit of a window over `left` places stands.
-pub fn placed(w: Width, window: Window, left: usize) -> Place
-    requires { ⌜ Wide (w .bits) ⌝ }
-    requires { ⌜ (left ≤ mostPlaces) × (window .twos < w .bits) × (w .bits ≤ left + window .twos) ⌝ }
-    ensures { λ r. ⌜ Placed (w .bits) window left r ⌝ }
+pub fn placed(w: u32, window: Window, left: usize) -> Place
+    requires { ⌜ Wide w ⌝ }
+    requires { ⌜ (left ≤ mostPlaces) × (window .twos < w) × (w ≤ left + window .twos) ⌝ }
+    ensures { λ r. ⌜ Placed w window left r ⌝ }
 {
-    let span = w.bits() as usize;
+    let span = w as usize;
     Place {
         spot: left + (window.twos as usize) - span,
         unit: window.unit,

@@ -10,6 +10,7 @@ use mir.Facts.{toZ-ofZ}
 use Rattle.meaning.specs.Scalars.{number, bit, below}
 use Rattle.meaning.specs.Windows.{windowBits, twos, oddPart}
 use Rattle.meaning.specs.Wmof.{windowAt}
+use Rattle.windows.specs.Openings.{Tells}
 use Rattle.windows.specs.Parts.{Parts}
 use Rattle.windows.proofs.Opened.{opened-lt, opened-at, bits-same, bits-differ, looked, puts}
 use Rattle.reader.proofs.Takes.{opened-none, opened-some}
@@ -20,14 +21,18 @@ use Rattle.reader.proofs.opening.Tie as tie
 seen : (c : tie.After-window) → let a = c .before .before .before .args in c .window .result ≡ windowBits (a .w .bits) (number (now (a .scalar))) (a .place - 1)
 seen c = rw (c .before .bits .ensures) at (c .window .ensures)
 
--- whose two leading bits are different where it opens
+-- whether its two leading bits are different
+tells : (c : tie.After-opens) → Tells (c .before .before .before .before .args .w .bits) (c .before .window .result) (c .opens .result)
+tells c = rw (c .before .before .bits .ensures) at (c .opens .ensures)
+
+-- as they are where it opens
 differ : (c : tie.Then1)
     → let a = c .before .before .before .before .before .args in
     bit (number (now (a .scalar))) (a .place - 1) ≢ below (number (now (a .scalar))) (a .place - 1)
 differ c =
     let a = c .before .before .before .before .before .args in
     let o = c .before in
-    bits-differ (a .w .bits) (number (now (a .scalar))) (a .place - 1) (o .before .window .result) (omega arith) (seen (o .before)) (o .opens .result) (o .opens .ensures) (c .if1 .taken)
+    bits-differ (a .w .bits) (number (now (a .scalar))) (a .place - 1) (o .before .window .result) (omega arith) (seen (o .before)) (o .opens .result) (tells o) (c .if1 .taken)
 
 -- and which is then looked up
 found : (c : tie.After-look-up)
@@ -48,7 +53,7 @@ placed-requires : tie.Need-placed-requires
 placed-requires c κs =
     let a = c .before .before .before .before .before .before .args in
     let o = opened-at (a .w .bits) (number (now (a .scalar))) (a .place - 1) (omega arith) (differ (c .before)) .over in
-    (omega arith, (omega arith, omega arith, omega (arith, found c .twos-is)))
+    rw (c .before .before .before .before .bits .ensures) (omega arith, (omega arith, omega arith, omega (arith, found c .twos-is)))
 
 returns : tie.Need-returns
 returns c =
@@ -57,7 +62,7 @@ returns c =
     let a = s .args in
     let v = windowAt (a .w .bits) (number (now (a .scalar))) (a .place - 1) in
     let above : suc (a .place - 1) ≡ a .place = omega (arith, s .pre .1) in
-    let P = puts (a .place - 1) v above (found (k .before)) (k .placed .ensures) in
+    let P = puts (a .place - 1) v above (found (k .before)) (rw (k .before .before .before .before .before .bits .ensures) at (k .placed .ensures)) in
     opened-some (a .w .bits) (number (now (a .scalar))) (a .place - 1) (c .pass .ensures) (differ (k .before .before)) (toZ-ofZ {w = w8} (sfits-of (c .before .struct-told .given .1 .0 .1)) ∙ P .unit-is) (P .spot-is) (P .left-is)
 
 returns-2 : tie.Need-returns-2
@@ -65,11 +70,11 @@ returns-2 c =
     let k = c .before .before in
     let a = k .before .before .before .before .args in
     let N = number (now (a .scalar)) in
-    let same = bits-same (a .w .bits) N (a .place - 1) (k .before .window .result) (omega arith) (seen (k .before)) (k .opens .result) (k .opens .ensures) (c .before .if1 .left) in
+    let same = bits-same (a .w .bits) N (a .place - 1) (k .before .window .result) (omega arith) (seen (k .before)) (k .opens .result) (tells k) (c .before .if1 .left) in
     opened-none (a .w .bits) N (a .place - 1) (c .pass2 .ensures) same refl
 
 pub opening-spec : {M : Type 1} → statement M
 opening-spec =
     tie.close
-    (tie.spec (λ c. search needs) (λ c κs. search needs) (λ c κs. search needs) (λ c κs. search needs) look-up-requires placed-requires (λ c κs. search needs) returns
+    (tie.spec (λ c κs. search needs) (λ c. search needs) (λ c κs. search needs) (λ c κs. search needs) look-up-requires placed-requires (λ c κs. search needs) returns
     (λ c. search needs) (λ c κs. search needs) returns-2)

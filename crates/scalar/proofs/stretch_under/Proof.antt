@@ -8,9 +8,10 @@ use Rattle.scalar.proofs.stretch_under.Tie as tie
 
 returns : tie.Need-returns
 returns c =
-    let u = c .before in
-    let a = u .before .before .args in
-    rw (c .stretch .ensures) (stretch-under-is (number (now (a .s))) (a .i) (a .w) (u .under .result) (u .before .before .pre .0) (u .under .ensures))
+    let k = c .before in
+    let f = k .before in
+    let a = f .before .before .args in
+    rw (k .stretch .ensures) (stretch-under-is (number (now (a .s))) (a .i) (a .w) (f .under .result) (c .under2 .result) (f .before .before .pre .0) (f .under .ensures) (c .under2 .ensures))
 
 pub stretch-under-spec : {M : Type 1} → statement M
-stretch-under-spec = tie.close (tie.spec (λ c κs. search needs) (λ c κs. search needs) (λ c. search needs) (λ c. search needs) (λ c. search needs) returns)
+stretch-under-spec = tie.close (tie.spec (λ c κs. search needs) (λ c κs. search needs) (λ c κs. search needs) (λ c. search needs) returns)

@@ -14,45 +14,44 @@ use Rattle.windows.proofs.work_out.Statement.{statement}
 use Rattle.windows.proofs.work_out.Tie as tie
 
 -- 2 ^ w as the code shifts it
-full : (c : tie.After-bits) → 1 * 2 ^ c .bits .result % 2 ^ 32 ≡ 2 ^ c .before .args .w .bits
-full c = rw (c .bits .ensures) (one-shifted (c .before .args .w .bits) 32 (omega arith))
+full : (c : tie.Start) → 1 * 2 ^ c .args .w % 2 ^ 32 ≡ 2 ^ c .args .w
+full c = one-shifted (c .args .w) 32 (omega arith)
 
 -- the window is a small number
-narrow : (c : tie.Start) → 2 ^ (c .args .w .bits + 1) ≤ 2 ^ 9
-narrow c = pow-mono {i = c .args .w .bits + 1} {j = 9} (omega arith)
+narrow : (c : tie.Start) → 2 ^ (c .args .w + 1) ≤ 2 ^ 9
+narrow c = pow-mono {i = c .args .w + 1} {j = 9} (omega arith)
 
-found : (c : tie.Start) → Worked (c .args .w .bits) (c .args .s) (c .args .less) (c .pre .0) (c .pre .1 .0) (c .pre .1 .1 .0) (c .pre .1 .1 .1)
-found c = worked-out (c .args .w .bits) (c .args .s) (c .args .less) (c .pre .0) (c .pre .1 .0) (c .pre .1 .1 .0) (c .pre .1 .1 .1)
+found : (c : tie.Start) → Worked (c .args .w) (c .args .s) (c .args .less) (c .pre .0) (c .pre .1 .0) (c .pre .1 .1 .0) (c .pre .1 .1 .1)
+found c = worked-out (c .args .w) (c .args .s) (c .args .less) (c .pre .0) (c .pre .1 .0) (c .pre .1 .1 .0) (c .pre .1 .1 .1)
 
 add-half : tie.Need-add-half
-add-half c = record { fits = omega (arith, narrow (c .before)) }
+add-half c = record { fits = omega (arith, narrow c) }
 
 shr-difference : tie.Need-shr-difference
-shr-difference c = found (c .before) .few
+shr-difference c = found c .few
 
 rem-difference : tie.Need-rem-difference
-rem-difference c = omega (arith, full c, pow-pos (c .before .args .w .bits))
+rem-difference c = omega (arith, full c, pow-pos (c .args .w))
 
 sub-difference : tie.Need-sub-difference
-sub-difference c = mod-le (c .before .args .s) (1 * 2 ^ c .bits .result % 2 ^ 32)
+sub-difference c = mod-le (c .args .s) (1 * 2 ^ c .args .w % 2 ^ 32)
 
 shr-difference-2 : tie.Need-shr-difference-2
-shr-difference-2 c = found (c .before) .few
+shr-difference-2 c = found c .few
 
 difference-requires : tie.Need-difference-requires
-difference-requires c κs = rw (full c) (found (c .before) .close)
+difference-requires c κs = rw (full c) (found c .close)
 
 cast-t12 : tie.Need-cast-t12
-cast-t12 c = record { fits = omega (arith, found (c .before .before) .few) }
+cast-t12 c = record { fits = omega (arith, found (c .before) .few) }
 
 returns : tie.Need-returns
 returns c =
-    let b = c .before in
-    let s = b .before in
+    let s = c .before in
     let a = s .args in
     let k = trailingZeros 32 ((a .s + 1) / 2 - a .less) in
-    let d = c .difference .ensures ∙ ap (λ t. pos (((a .s + 1) / 2 - a .less) / 2 ^ k) -ℤ pos ((a .s - a .s % t) / 2 ^ k)) (full b) in
+    let d = c .difference .ensures ∙ ap (λ t. pos (((a .s + 1) / 2 - a .less) / 2 ^ k) -ℤ pos ((a .s - a .s % t) / 2 ^ k)) (full s) in
     found s .is _ (toZ-ofZ (sfits-of (c .difference .ok)) ∙ d)
 
 pub work-out-spec : {M : Type 1} → statement M
-work-out-spec = tie.close (tie.spec (λ c κs. search needs) (λ c. search needs) add-half (λ c. search needs) shr-difference rem-difference sub-difference shr-difference-2 difference-requires cast-t12 returns)
+work-out-spec = tie.close (tie.spec (λ c. search needs) add-half (λ c. search needs) shr-difference rem-difference sub-difference shr-difference-2 difference-requires cast-t12 returns)

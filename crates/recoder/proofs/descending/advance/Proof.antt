@@ -16,28 +16,22 @@ use Rattle.forms.proofs.DigitSets.{digit-some}
 use Rattle.windows.specs.Openings.{Placed}
 use Rattle.windows.specs.Parts.{Parts}
 use Rattle.windows.proofs.Opened.{opened, opened-lt, opened-at, worked, Puts, puts}
-use Rattle.recoder.specs.Sweeps.{Highest, openings}
+use Rattle.recoder.specs.Sweeps.{Highest}
 use Rattle.recoder.proofs.Marking.{marks-length}
 use Rattle.recoder.proofs.Sweeping.{swept-none, Down, down-some, down-end, down-under, down-seen, down-opens, down-put}
 use Rattle.recoder.proofs.descending.advance.Statement.{statement}
 use Rattle.recoder.proofs.descending.advance.Tie as tie
 
 abbrev Inv-loop : tie.InvT-loop
-Inv-loop w s from floor digits₀ marks₀ width tail lowest x opens₀ left₀ digits marks opens left =
-    Down (w .bits) (number s) lowest x floor from digits₀ opens left digits × (marks ≡ marksOf digits)
+Inv-loop w s from floor digits₀ marks₀ tail lowest x opens₀ left₀ digits marks opens left =
+    Down w (number s) lowest x floor from digits₀ opens left digits × (marks ≡ marksOf digits)
 
 abbrev μ-loop : tie.MeasureT-loop
-μ-loop w s from floor digits₀ marks₀ width tail lowest x opens₀ left₀ digits marks opens left = left
+μ-loop w s from floor digits₀ marks₀ tail lowest x opens₀ left₀ digits marks opens left = left
 
 -- what the function was called with, and what it found before the loop
 abbrev start : tie.At-loop Inv-loop μ-loop → tie.Start Inv-loop μ-loop
-start l = l .before .before .before .before .before .before .before
-
-abbrev width : tie.At-loop Inv-loop μ-loop → ℕ
-width l = l .before .before .before .before .bits .result
-
-width-is : (l : tie.At-loop Inv-loop μ-loop) → width l ≡ start l .args .w .bits
-width-is l = l .before .before .before .before .bits .ensures
+start l = l .before .before .before .before .before .before
 
 abbrev lowest : tie.At-loop Inv-loop μ-loop → ℕ
 lowest l = l .before .before .before .lowest-place .result
@@ -45,17 +39,15 @@ lowest l = l .before .before .before .lowest-place .result
 abbrev x : tie.At-loop Inv-loop μ-loop → ℕ
 x l = l .before .before .stretch-under .result
 
-two : (l : tie.At-loop Inv-loop μ-loop) → 2 ≤ start l .args .w .bits
+two : (l : tie.At-loop Inv-loop μ-loop) → 2 ≤ start l .args .w
 two l = start l .pre .0 .0
 
 same : (l : tie.At-loop Inv-loop μ-loop)
     → let a = start l .args in
-    x l % 2 ^ 56 ≡ number (now (a .s)) * 2 ^ a .w .bits / 2 ^ lowest l % 2 ^ 56
-same l =
-    let a = start l .args in
-    l .before .before .stretch-under .ensures ∙ ap (λ w. number (now (a .s)) * 2 ^ w / 2 ^ lowest l % 2 ^ 56) (width-is l)
+    x l % 2 ^ 56 ≡ number (now (a .s)) * 2 ^ a .w / 2 ^ lowest l % 2 ^ 56
+same l = l .before .before .stretch-under .ensures
 
-bounds : (l : tie.At-loop Inv-loop μ-loop) → (start l .args .floor ≤ lowest l) × (lowest l < start l .args .from) × (start l .args .from + start l .args .w .bits ≤ lowest l + 56)
+bounds : (l : tie.At-loop Inv-loop μ-loop) → (start l .args .floor ≤ lowest l) × (lowest l < start l .args .from) × (start l .args .from + start l .args .w ≤ lowest l + 56)
 bounds l = l .before .before .before .lowest-place .ensures
 
 -- the places are few
@@ -73,14 +65,14 @@ r c = c .before .before .highest .result
 abbrev at : tie.After-window Inv-loop μ-loop → ℕ
 at c = lowest (turn c) + r c
 
-top : (c : tie.After-window Inv-loop μ-loop) → Highest (start (turn c) .args .w .bits - 1) (turn c .loop .opens) (r c)
-top c = subst (λ w. Highest (w - 1) (turn c .loop .opens) (r c)) (width-is (turn c)) (c .before .before .highest .ensures)
+top : (c : tie.After-window Inv-loop μ-loop) → Highest (start (turn c) .args .w - 1) (turn c .loop .opens) (r c)
+top c = c .before .before .highest .ensures
 
 under : (c : tie.After-window Inv-loop μ-loop) → at c < turn c .loop .left
 under c = let l = turn c in down-under (two l) (same l) (bounds l) (l .loop .inv .0) (r c) (top c)
 
 -- the window
-seen : (c : tie.After-window Inv-loop μ-loop) → let a = start (turn c) .args in c .window .result ≡ windowBits (a .w .bits) (number (now (a .s))) (at c)
+seen : (c : tie.After-window Inv-loop μ-loop) → let a = start (turn c) .args in c .window .result ≡ windowBits (a .w) (number (now (a .s))) (at c)
 seen c = let l = turn c in c .window .ensures ∙ down-seen (two l) (same l) (bounds l) (l .loop .inv .0) (r c) (top c)
 
 differ : (c : tie.After-window Inv-loop μ-loop) → let N = number (now (start (turn c) .args .s)) in bit N (at c) ≢ below N (at c)
@@ -90,23 +82,23 @@ differ c = let l = turn c in down-opens (two l) (same l) (bounds l) (l .loop .in
 found : (c : tie.After-work-out Inv-loop μ-loop)
     → let o = c .before in
     let a = start (turn o) .args in
-    let v = windowAt (a .w .bits) (number (now (a .s))) (at o) in
-    Parts (a .w .bits) (oddPart (a .w .bits) v) (twos (a .w .bits) v) (c .work-out .result)
+    let v = windowAt (a .w) (number (now (a .s))) (at o) in
+    Parts (a .w) (oddPart (a .w) v) (twos (a .w) v) (c .work-out .result)
 found c =
     let o = c .before in
     let a = start (turn o) .args in
-    worked (a .w .bits) (number (now (a .s))) (at o) (o .window .result) (two (turn o)) (seen o) (c .work-out .ensures)
+    worked (a .w) (number (now (a .s))) (at o) (o .window .result) (two (turn o)) (seen o) (c .work-out .ensures)
 
 -- its digit
 digit : (c : tie.After-placed Inv-loop μ-loop)
     → let o = c .before .before in
     let a = start (turn o) .args in
-    Puts (a .w .bits) (at o) (windowAt (a .w .bits) (number (now (a .s))) (at o)) (c .placed .result)
+    Puts (a .w) (at o) (windowAt (a .w) (number (now (a .s))) (at o)) (c .placed .result)
 digit c =
     let o = c .before .before in
     let a = start (turn o) .args in
-    let e : width (turn o) - 1 + 1 ≡ a .w .bits = omega (arith, width-is (turn o), two (turn o)) in
-    puts (at o) (windowAt (a .w .bits) (number (now (a .s))) (at o)) (omega arith) (found (c .before)) (subst (λ w. Placed w (c .before .work-out .result) (at o + 1) (c .placed .result)) e (c .placed .ensures))
+    let e : a .w - 1 + 1 ≡ a .w = omega (arith, two (turn o)) in
+    puts (at o) (windowAt (a .w) (number (now (a .s))) (at o)) (omega arith) (found (c .before)) (subst (λ w. Placed w (c .before .work-out .result) (at o + 1) (c .placed .result)) e (c .placed .ensures))
 
 -- is put
 stored : (c : tie.After-put Inv-loop μ-loop)
@@ -117,9 +109,6 @@ stored c =
     let p = c .before .before .before .before in
     let r = p .placed .result in
     c .put .ensures .0 ∙ ap (set (turn (p .before .before) .loop .digits) (r .spot)) (toZ-ofZ {w = w8} {z = r .unit} (sfits-of (c .before .struct-told .given .1 .0 .1)))
-
-bits-requires : tie.Need-bits-requires Inv-loop μ-loop
-bits-requires c κs = search needs
 
 sub-tail : tie.Need-sub-tail Inv-loop μ-loop
 sub-tail c = search needs
@@ -138,13 +127,13 @@ places-requires c κs = search needs
 
 loop-holds : tie.Need-loop-holds Inv-loop μ-loop
 loop-holds c =
-    let p = c .before .before .before .before .before .before .pre in
-    (record { swept = swept-none (p .1 .1 .1); opens-are = c .places .ensures ∙ ap (λ w. openings (w - 1) (c .before .stretch-under .result) (c .before .before .before .before .before .before .args .from - c .before .before .lowest-place .result)) (c .before .before .before .bits .ensures) }, p .1 .1 .0)
+    let p = c .before .before .before .before .before .pre in
+    (record { swept = swept-none (p .1 .1 .1); opens-are = c .places .ensures }, p .1 .1 .0)
 
 highest-requires : tie.Need-highest-requires Inv-loop μ-loop
 highest-requires c κs =
     let l = c .before in
-    rw (width-is l) (down-some (two l) (same l) (bounds l) (l .loop .inv .0) (c .loop-test .taken))
+    down-some (two l) (same l) (bounds l) (l .loop .inv .0) (c .loop-test .taken)
 
 below-requires : tie.Need-below-requires Inv-loop μ-loop
 below-requires c κs = c .highest .ensures .few
@@ -155,7 +144,7 @@ window-requires c κs = (start (c .before .before .before) .pre .0, c .before .h
 work-out-requires : tie.Need-work-out-requires Inv-loop μ-loop
 work-out-requires c κs =
     let l = turn c in
-    let w = start l .args .w .bits in
+    let w = start l .args .w in
     let N = number (now (start l .args .s)) in
     (start l .pre .0, (rw (seen c) (opened-lt w N (at c)), (rw (seen c) (opened w N (at c) (two l) (differ c)), omega arith)))
 
@@ -170,7 +159,7 @@ placed-requires c κs =
     let o = c .before in
     let l = turn o in
     let f = found c in
-    omega (arith, under o, few l, width-is l, f .twos-is, f .few, opened-at (start l .args .w .bits) (number (now (start l .args .s))) (at o) (two l) (differ o) .over)
+    omega (arith, under o, few l, f .twos-is, f .few, opened-at (start l .args .w) (number (now (start l .args .s))) (at o) (two l) (differ o) .over)
 
 put-requires : tie.Need-put-requires Inv-loop μ-loop
 put-requires c κs =
@@ -179,7 +168,7 @@ put-requires c κs =
     let l = turn o in
     let g = l .loop .inv .0 .swept in
     let r = p .placed .result in
-    let t = opened-at (start l .args .w .bits) (number (now (start l .args .s))) (at o) (two l) (differ o) in
+    let t = opened-at (start l .args .w) (number (now (start l .args .s))) (at o) (two l) (differ o) in
     let spot : r .spot < l .loop .left = omega (arith, digit p .spot-is, t .under, under o) in
     let unit = toZ-ofZ {w = w8} {z = r .unit} (sfits-of (c .struct-told .given .1 .0 .1)) ∙ digit p .unit-is in
     let m = start l .pre .1 .0 in
@@ -218,5 +207,5 @@ returns c =
 pub advance-spec : {M : Type 1} → statement M
 advance-spec =
     tie.close
-    (tie.spec Inv-loop μ-loop bits-requires sub-tail lowest-place-requires stretch-under-requires sub-places places-requires loop-holds highest-requires below-requires
+    (tie.spec Inv-loop μ-loop sub-tail lowest-place-requires stretch-under-requires sub-places places-requires loop-holds highest-requires below-requires
     window-requires work-out-requires cast-placed add-placed placed-requires put-requires loop-less loop-again smaller-requires same-length same-length-2 returns)

@@ -12,7 +12,7 @@ use Rattle.recoder.proofs.descending.sweep.Statement.{statement}
 use Rattle.recoder.proofs.descending.sweep.Tie as tie
 
 abbrev Inv-loop : tie.InvT-loop
-Inv-loop w s from floor digits₀ marks₀ left₀ digits marks left = Swept (w .bits) (number s) floor from digits₀ left digits × (marks ≡ marksOf digits)
+Inv-loop w s from floor digits₀ marks₀ left₀ digits marks left = Swept w (number s) floor from digits₀ left digits × (marks ≡ marksOf digits)
 
 abbrev μ-loop : tie.MeasureT-loop
 μ-loop w s from floor digits₀ marks₀ left₀ digits marks left = left

@@ -9,10 +9,10 @@ use Rattle.recoder.proofs.descending.turns.Tie as tie
 
 returns : tie.Need-returns
 returns c =
-    let o = c .before .before in
+    let o = c .before in
     let a = o .before .args in
-    let l = a .bits / 2 ^ a .w .bits in
-    rw (c .bits .ensures) (record { yes = λ h. (o .opens .ensures .yes (c .before .if1 .taken), eqb-true l (a .turn) h); no = λ h k. eqb-false l (a .turn) h })
+    let l = a .bits / 2 ^ a .w in
+    record { yes = λ h. (o .opens .ensures .yes (c .if1 .taken), eqb-true l (a .turn) h); no = λ h k. eqb-false l (a .turn) h }
 
 returns-2 : tie.Need-returns-2
 returns-2 c =
@@ -20,4 +20,4 @@ returns-2 c =
     record { yes = λ h. absurd (true-false (sym h ∙ c .if1 .left)); no = λ h k. absurd (k (o .opens .ensures .no h)) }
 
 pub turns-spec : {M : Type 1} → statement M
-turns-spec = tie.close (tie.spec (λ c κs. search needs) (λ c κs. search needs) (λ c. search needs) returns returns-2)
+turns-spec = tie.close (tie.spec (λ c κs. search needs) (λ c. search needs) returns returns-2)

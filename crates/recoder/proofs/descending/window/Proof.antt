@@ -1,5 +1,5 @@
 -- `recoder::descending::window` meets its contract. Assumes nothing.
-use mathlib.Core.Path.{ap, _∙_}
+use mathlib.Core.Path.{ap}
 use Prim.Native.Nat.{_+_, _/_, _%_, _^_}
 use native.Mathlib.Omega.{arith}
 use native.Mathlib.Nat.{mod-lt}
@@ -10,19 +10,17 @@ use Rattle.recoder.proofs.descending.window.Statement.{statement}
 use Rattle.recoder.proofs.descending.window.Tie as tie
 
 rem-result : tie.Need-rem-result
-rem-result c = omega (arith, shl-one (c .bits .result + 1) (omega arith), pow-pos (c .bits .result + 1))
+rem-result c = omega (arith, shl-one (c .args .w + 1) (omega arith), pow-pos (c .args .w + 1))
 
 returns : tie.Need-returns
 returns c =
-    let a = c .before .args in
-    let e = c .bits .ensures in
-    ap (λ t. a .x / 2 ^ a .at % t) (shl-one (c .bits .result + 1) (omega arith) ∙ ap (λ t. 2 ^ (t + 1)) e)
+    let a = c .args in
+    ap (λ t. a .x / 2 ^ a .at % t) (shl-one (a .w + 1) (omega arith))
 
 cast-result-2 : tie.Need-cast-result-2
 cast-result-2 c =
-    let a = c .before .args in
-    let e = c .bits .ensures in
-    record { fits = omega (arith, returns c, mod-lt (a .x / 2 ^ a .at) (pow-pos (a .w .bits + 1)), pow-mono {i = a .w .bits + 1} {j = 9} (omega arith)) }
+    let a = c .args in
+    record { fits = omega (arith, returns c, mod-lt (a .x / 2 ^ a .at) (pow-pos (a .w + 1)), pow-mono {i = a .w + 1} {j = 9} (omega arith)) }
 
 pub window-spec : {M : Type 1} → statement M
-window-spec = tie.close (tie.spec (λ c κs. search needs) (λ c. search needs) (λ c. search needs) (λ c. search needs) (λ c. search needs) rem-result cast-result-2 returns)
+window-spec = tie.close (tie.spec (λ c. search needs) (λ c. search needs) (λ c. search needs) (λ c. search needs) rem-result cast-result-2 returns)

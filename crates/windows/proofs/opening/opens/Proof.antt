@@ -8,10 +8,10 @@ use Rattle.windows.proofs.opening.opens.Tie as tie
 
 returns : tie.Need-returns
 returns c =
-    let a = c .before .args in
-    let l = a .s / 2 ^ a .w .bits in
-    let n = a .s / 2 ^ (a .w .bits - 1) % 2 in
-    rw (c .bits .ensures) (record { yes = λ h. eqb-false l n (not-true (eqb l n) h); no = λ h. eqb-true l n (not-false (eqb l n) h) })
+    let a = c .args in
+    let l = a .s / 2 ^ a .w in
+    let n = a .s / 2 ^ (a .w - 1) % 2 in
+    record { yes = λ h. eqb-false l n (not-true (eqb l n) h); no = λ h. eqb-true l n (not-false (eqb l n) h) }
 
 pub opens-spec : {M : Type 1} → statement M
-opens-spec = tie.close (tie.spec (λ c κs. search needs) (λ c. search needs) (λ c. search needs) (λ c. search needs) returns)
+opens-spec = tie.close (tie.spec (λ c. search needs) (λ c. search needs) (λ c. search needs) returns)
