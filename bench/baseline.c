@@ -327,7 +327,7 @@ static uint32_t plus(uint32_t x, uint32_t y, uint32_t modulus) {
 
 sarvundole_ran baseline_run(uint8_t width, const uint16_t *tape, size_t words, uint32_t modulus, uint32_t base, uint32_t *multiples,
                             size_t room) {
-    sarvundole_ran r = {0, 0, 0, 0, 0, 0};
+    sarvundole_ran r = {0, 0, 0, 0, 0, {0, 0}};
     const size_t entries = bad_width(width) ? 0 : (size_t)1 << (width - 2);
     if (!entries) r.refusal = 2;
     else if (!modulus) r.refusal = 12;
@@ -358,7 +358,8 @@ sarvundole_ran baseline_run(uint8_t width, const uint16_t *tape, size_t words, u
         }
     }
     r.residue = value;
-    r.cost = (uint16_t)(entries - 1);
+    r.cost.doublings = entries > 1;
+    r.cost.additions = (uint16_t)(entries - 1);
     return r;
 }
 

@@ -63,7 +63,7 @@ static void run(const input *in, output *out, int library) {
     sarvundole_ran r = (library ? sarvundole_run : baseline_run)(in->width, in->tape, in->words, in->modulus, in->base, out->multiples,
                                                                  in->multiples_room);
     out->fields[0] = r.refusal, out->fields[1] = r.place, out->fields[2] = r.residue;
-    out->fields[3] = r.doublings, out->fields[4] = r.additions, out->fields[5] = r.cost;
+    out->fields[3] = r.doublings, out->fields[4] = r.additions, out->fields[5] = r.cost.doublings, out->fields[6] = r.cost.additions;
 }
 
 static void read_at(const input *in, output *out, int library) {

@@ -79,7 +79,7 @@ int main(int count, char **given) {
 
     sarvundole_ran ran = sarvundole_run(width, words, taped.words, MODULUS, BASE, multiples, SARVUNDOLE_MOST_MULTIPLES);
     ended("run", ran.refusal, ran.place);
-    printf("%u doublings, %u additions, and %u for the multiples\n", ran.doublings, ran.additions, ran.cost);
+    printf("doublings %u, additions %u; of the multiples: doublings %u, additions %u\n", ran.doublings, ran.additions, ran.cost.doublings, ran.cost.additions);
     printf("residue %lu of the number times %lu modulo %lu\n", (unsigned long)ran.residue, (unsigned long)BASE, (unsigned long)MODULUS);
     if (fflush(stdout) != 0) {
         perror("check_number: standard output");

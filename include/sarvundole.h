@@ -109,14 +109,21 @@ typedef struct sarvundole_taped {
     uint16_t additions;
 } sarvundole_taped;
 
-/* What run answers: the residue reached, the doublings and additions done, and the cost of the multiples, 2^(w-2) - 1 additions. */
+/* What the multiples cost: to make 3g, 5g and so on from g, it is doubled once, and that double added for each. One doubling, or 0 where g is
+ * the only multiple, at width 2; 2^(w-2) - 1 additions. */
+typedef struct sarvundole_cost {
+    uint16_t doublings;
+    uint16_t additions;
+} sarvundole_cost;
+
+/* What run answers: the residue reached, the doublings and additions done, and the cost of the multiples, which those two leave out. */
 typedef struct sarvundole_ran {
     uint8_t refusal;
     uint16_t place;
     uint32_t residue;
     uint16_t doublings;
     uint16_t additions;
-    uint16_t cost;
+    sarvundole_cost cost;
 } sarvundole_ran;
 
 /* What read_at answers: `given` is 1 and `digit` the digit, or `given` is 0 where the reader is done. */

@@ -140,7 +140,8 @@ static void run(int at_end) {
     for (size_t i = 0; i < count; i++) given[i] = (uint16_t)take(2);
     uint32_t *m = lend_to_write(&multiples, room, 4, 0xDEADBEEF, at_end);
     sarvundole_ran r = sarvundole_run(width, lend(&tapes, 2 * count, at_end, given), count, modulus, base, m, room);
-    put(r.refusal, 1), put(r.place, 2), put(r.residue, 4), put(r.doublings, 2), put(r.additions, 2), put(r.cost, 2);
+    put(r.refusal, 1), put(r.place, 2), put(r.residue, 4), put(r.doublings, 2), put(r.additions, 2);
+    put(r.cost.additions, 2), put(r.cost.doublings, 2);
     given_back(&tapes);
     put_lent(&multiples, 4);
 }

@@ -23,7 +23,8 @@ capitals: every field, then every lent buffer whole. Numbers of more than one by
     04 tape           width 1, words lent 2, digits                         refusal 1, place 2, words 2, doublings 2,
                                                                             additions 2, the words lent
     05 run            width 1, multiples lent 2, modulus 4, base 4, tape    refusal 1, place 2, residue 4, doublings 2,
-                                                                            additions 2, cost 2, the multiples lent
+                                                                            additions 2, cost additions 2, cost
+                                                                            doublings 2, the multiples lent
     06 reader         width 1, calls 2, scalar                              refusal 1, then for each call 01 and the
                                                                             digit, or 0000 for done
     07 search         width 1, number 4                                     refusal 1, weight 1
@@ -309,8 +310,19 @@ def tape_value(words):
     return value
 
 
+def cost(count):
+    """The additions and doublings that a chip takes to make so many odd multiples of 1: 2, and that added to the last."""
+    made, additions, doublings = [1], 0, 0
+    while len(made) < count:
+        if not doublings:
+            twice, doublings = 2 * made[0], doublings + 1
+        made, additions = made + [made[-1] + twice], additions + 1
+    assert made == [2 * e + 1 for e in range(count)]
+    return additions, doublings
+
+
 def run(width, words, modulus, base, multiples):
-    """refusal, place, residue, doublings, additions, cost; multiples"""
+    """refusal, place, residue, doublings, additions, cost additions, cost doublings; multiples"""
     place = 0
     if bad_width(width):
         refusal = 2
@@ -327,8 +339,8 @@ def run(width, words, modulus, base, multiples):
         additions = sum(1 for x in words if code_of(x) in (ADD, SUBTRACT))
         stored = [(2 * e + 1) * base % modulus for e in range(entries(width))]
         residue = tape_value(words) * base % modulus
-        return (0, 0, residue, doublings, additions, entries(width) - 1), stored + multiples[len(stored) :]
-    return (refusal, place, 0, 0, 0, 0), multiples
+        return (0, 0, residue, doublings, additions, *cost(entries(width))), stored + multiples[len(stored) :]
+    return (refusal, place, 0, 0, 0, 0, 0), multiples
 
 
 def reader(width, scalar, calls):
@@ -557,7 +569,7 @@ def check_tapes():
                 (refusal, _, count, doublings, additions), words = tape(width, digits, [0] * MOST_WORDS)
                 assert refusal == 0 and tape_value(words[:count]) == worth(digits) == n
                 ran, _ = run(width, words[:count], 1009, 1234567, [0] * 64)
-                assert ran == (0, 0, n * 1234567 % 1009, doublings, additions, entries(width) - 1)
+                assert ran == (0, 0, n * 1234567 % 1009, doublings, additions, 2 ** (width - 2) - 1, 1 if width > 2 else 0)
                 assert check(width, scalar, digits) == (0, 0, weight(digits), top(digits))
             assert check(width, scalar, form_digits(WNAF, width, scalar), nonadjacent=True)[0] == 0
             assert reader(width, scalar, 17)[1] == form_digits(WMOF, width, scalar)[::-1]

@@ -14,7 +14,8 @@ use Rattle.meaning.specs.Wmof.{wmofUnder, wmof}
 use Rattle.meaning.specs.Closest.{larger, smaller, Favours}
 use Rattle.meaning.specs.Recoding.{marked, marksOf}
 use Rattle.meaning.specs.Words.{stepOf}
-use Rattle.meaning.specs.Walks.{taken, walked, tapeValue, doublings, additions}
+use Rattle.meaning.specs.Walks.{taken, walked, wholes, tapeValue, doublings, additions}
+use Rattle.meaning.specs.Multiples.{makingOf, made, madeFrom, costDoublings, costAdditions, costOf}
 use Rattle.meaning.specs.Taping.{moves, down, tapeOf}
 use Rattle.meaning.specs.Reading.{digit, done, readAt}
 use Rattle.meaning.specs.Lines.{linesOf}
@@ -98,6 +99,19 @@ its-doublings = refl
 its-additions : additions (tapeOf thirteen) ≡ 2
 unfolding thirteen tapeOf down moves additions
 its-additions = refl
+
+-- four multiples: 1 is doubled, and the double added three times; one multiple costs nothing
+four-made : madeFrom wholes (pos 1) 4 ≡ pos 1 ∷ pos 3 ∷ pos 5 ∷ pos 7 ∷ []
+unfolding made makingOf
+four-made = refl
+
+four-cost : costOf 4 ≡ record { doublings = 1; additions = 3 }
+unfolding makingOf costDoublings costAdditions
+four-cost = refl
+
+one-cost : costOf 1 ≡ record { doublings = 0; additions = 0 }
+unfolding makingOf costDoublings costAdditions
+one-cost = refl
 
 -- a reader gives a digit a call, then done
 read-on : readAt (pos 1 ∷ negsuc 0 ∷ []) 1 ≡ digit (negsuc 0)

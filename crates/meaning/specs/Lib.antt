@@ -12,6 +12,7 @@ pub mod Recoding
 pub mod Checking
 pub mod Words
 pub mod Walks
+pub mod Multiples
 pub mod Taping
 pub mod Running
 pub mod Reading

@@ -3,13 +3,14 @@
 use mathlib.Core.Path.{_≡_}
 use mathlib.Core.Logic.{_≢_}
 use mathlib.Core.List.{List, [], _∷_, _++_}
-use Prim.Native.Nat.{ℕ, _-_, _*_, _%_, _<_}
+use Prim.Native.Nat.{ℕ, _*_, _%_, _<_}
 use lib.IntN.{ℤ, pos, _+ℤ_, _*ℤ_}
 use lib.ListN.{length, getD, drop}
 use Rattle.meaning.specs.Digits.{largest, entries, listed}
 use Rattle.meaning.specs.Refusals.{Rule, plain, lowest, First, granted, kept, badWidth}
 use Rattle.meaning.specs.Words.{mostWords}
 use Rattle.meaning.specs.Walks.{multiple, tapeValue, doublings, additions, Good}
+use Rattle.meaning.specs.Multiples.{Cost, costOf}
 
 -- the word at index p is bad
 pub record BadWord (count : ℕ) (ws : List ℕ) (p : ℕ) : Type 0 where
@@ -36,14 +37,14 @@ pub record Residue (m : ℕ) (z : ℤ) (x : ℕ) : Type 0 where
 unfoldable pub multiplesOf : (count m g : ℕ) → List ℕ
 multiplesOf count m g = listed (λ e. multiple e * g % m) 0 count
 
--- what the call answers: the residue reached, the doublings and additions done, the cost of the multiples in additions
+-- what the call answers: the residue reached, the doublings and additions done, and beside them what the multiples cost
 pub record Ran : Type 0 where
   pub refusal : ℕ
   pub place : ℕ
   pub residue : ℕ
   pub doublings : ℕ
   pub additions : ℕ
-  pub cost : ℕ
+  pub cost : Cost
 
 -- and the buffer of multiples afterwards
 pub record Run (w : ℕ) (ws : List ℕ) (m g : ℕ) (multiples₀ : List ℕ) (a : Ran) (multiples : List ℕ) : Type 0 where
@@ -52,5 +53,6 @@ pub record Run (w : ℕ) (ws : List ℕ) (m g : ℕ) (multiples₀ : List ℕ) (
   pub residue-none : a .refusal ≢ 0 → a .residue ≡ 0
   pub doublings-are : a .doublings ≡ granted (a .refusal) (doublings ws)
   pub additions-are : a .additions ≡ granted (a .refusal) (additions ws)
-  pub cost-is : a .cost ≡ granted (a .refusal) (entries (largest w) - 1)
+  pub cost-doublings-are : a .cost .doublings ≡ granted (a .refusal) (costOf (entries (largest w)) .doublings)
+  pub cost-additions-are : a .cost .additions ≡ granted (a .refusal) (costOf (entries (largest w)) .additions)
   pub multiples-are : let count = entries (largest w) in multiples ≡ kept (a .refusal) (multiplesOf count m g ++ drop count multiples₀) multiples₀

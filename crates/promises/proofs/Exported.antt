@@ -19,7 +19,7 @@ pub c-run-determined : (w : ℕ) (ws : List ℕ) (m g : ℕ) (multiples₀ : Lis
 c-run-determined w ws m g multiples₀ a b ms ns K L = let (q, e) = run-plain w ws m g multiples₀ (ran a) (ran b) ms ns K L in (ap plain q, e)
   where
     plain : Running.Ran → Ran
-    plain r = record { refusal = r .refusal; place = r .place; residue = r .residue; doublings = r .doublings; additions = r .additions; cost = r .cost }
+    plain r = record { refusal = r .refusal; place = r .place; residue = r .residue; doublings = r .doublings; additions = r .additions; cost = record { doublings = r .cost .doublings; additions = r .cost .additions } }
 
 -- ---- the reader
 pub c-read-at-determined : (w : ℕ) (s : List ℕ) (k : ℕ) (a b : Reading) → Reads w s k (a .refusal) (a .given) (a .digit) → Reads w s k (b .refusal) (b .given) (b .digit) → a ≡ b

@@ -20,6 +20,7 @@ use Rattle.meaning.specs.Recoding.{markWords, marksOf, recodeRules}
 use Rattle.meaning.specs.Checking.{BadDigit, badDigit, Crowded, checkRules, nonadjacentRules}
 use Rattle.meaning.specs.Words.{codeOf, entryOf}
 use Rattle.meaning.specs.Walks.{tapeValue, doublings, additions, IsLoad, Good}
+use Rattle.meaning.specs.Multiples.{costOf}
 use Rattle.meaning.specs.Taping.{tapeOf, tapeRules}
 use Rattle.meaning.specs.Running.{BadWord, multiplesOf, runRules, Run, Ran}
 use Rattle.forms.proofs.Refusals.{clear}
@@ -237,7 +238,7 @@ run-kept-by w ws m g multiples₀ =
         let count = entries (largest w) in
         let (_, (some, _)) = clear rules tt 0 p f refl in
         let F = floor (tapeValue ws *ℤ pos g) m (positive some) in (
-          record { refusal = 0; place = p; residue = F .rem; doublings = doublings ws; additions = additions ws; cost = count - 1 },
+          record { refusal = 0; place = p; residue = F .rem; doublings = doublings ws; additions = additions ws; cost = costOf count },
           multiplesOf count m g ++ drop count multiples₀,
           record {
             first = f;
@@ -245,7 +246,8 @@ run-kept-by w ws m g multiples₀ =
             residue-none = λ n. absurd (n refl);
             doublings-are = refl;
             additions-are = refl;
-            cost-is = refl;
+            cost-doublings-are = refl;
+            cost-additions-are = refl;
             multiples-are = refl;
           },
         )
@@ -253,7 +255,7 @@ run-kept-by w ws m g multiples₀ =
         positive : (m ≡ 0 → ⊥) → 0 < m
         positive n = not-below (λ l. n (omega arith))
     go (suc r) p f = (
-      record { refusal = suc r; place = p; residue = 0; doublings = 0; additions = 0; cost = 0 },
+      record { refusal = suc r; place = p; residue = 0; doublings = 0; additions = 0; cost = record { doublings = 0; additions = 0 } },
       multiples₀,
       record {
         first = f;
@@ -261,7 +263,8 @@ run-kept-by w ws m g multiples₀ =
         residue-none = λ _. refl;
         doublings-are = refl;
         additions-are = refl;
-        cost-is = refl;
+        cost-doublings-are = refl;
+        cost-additions-are = refl;
         multiples-are = refl;
       },
     )

@@ -21,6 +21,7 @@ use Rattle.meaning.specs.Recoding.{markWords, marksOf, recodeRules}
 use Rattle.meaning.specs.Checking.{BadDigit}
 use Rattle.meaning.specs.Words.{stepOf}
 use Rattle.meaning.specs.Walks.{taken, walked, tapeValue, doublings, additions}
+use Rattle.meaning.specs.Multiples.{costOf}
 use Rattle.meaning.specs.Taping.{moves, down, tapeOf, tapeRules}
 use Rattle.meaning.specs.Running.{Residue, BadWord, multiplesOf, runRules, Run, Ran}
 use Rattle.forms.specs.Wnaf.{wnafDigit, wnafNext, wnafFrom}
@@ -97,7 +98,7 @@ pub record Written (ws : List ℕ) (doubled added : ℕ) (words₀ : List ℕ) (
 
 -- what an accepted run answers
 abbrev pub ranTo : (w x doubled added : ℕ) → Ran
-ranTo w x doubled added = record { refusal = 0; place = 0; residue = x; doublings = doubled; additions = added; cost = entries (largest w) - 1 }
+ranTo w x doubled added = record { refusal = 0; place = 0; residue = x; doublings = doubled; additions = added; cost = costOf (entries (largest w)) }
 
 -- whatever is lent, if it is enough, recode answers these digits
 abbrev pub Answers : (f w : ℕ) (s : List ℕ) (ds : List ℤ) → Type 0
@@ -201,7 +202,8 @@ module _ (w : ℕ) (ds : List ℤ) (ws : List ℕ) (m g x doubled added : ℕ) (
         residue-none = λ n. absurd (n refl);
         doublings-are = sym (S .doublings-are) ∙ sym (tape .doublings-are) ∙ ap doublings (S .words-are);
         additions-are = sym (S .additions-are) ∙ sym (tape .additions-are) ∙ ap additions (S .words-are);
-        cost-is = refl;
+        cost-doublings-are = refl;
+        cost-additions-are = refl;
         multiples-are = ap (λ v. v ++ drop (entries (largest w)) multiples₀) (sym (S .multiples-are));
       } in
       run-plain w ws m g multiples₀ r _ ms _ P W

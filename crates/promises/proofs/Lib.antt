@@ -19,3 +19,4 @@ pub mod Wnaf
 pub mod Instances
 pub mod Stream
 pub mod Exported
+pub mod Cost

@@ -1,5 +1,5 @@
 -- Calls that cannot keep their promise: refusing everything, one fixed string for all scalars, not writing at all, writing on a refusal, two refusals in the other
--- order, invented step counts, a verdict that does not depend on the scalar. Each is a theorem: a call with that behaviour that kept its promise at every input would give a contradiction. Assumes nothing.
+-- order, invented step counts, a cost without its doubling, a verdict that does not depend on the scalar. Each is a theorem: a call with that behaviour that kept its promise at every input would give a contradiction. Assumes nothing.
 use mathlib.Core.Path.{_≡_, refl, sym, ap, _∙_}
 use mathlib.Core.Logic.{_≢_, _⊎_, inl, inr, ⊎-elim}
 use mathlib.Core.List.{List, [], _∷_}
@@ -31,7 +31,8 @@ use Rattle.promises.proofs.Recode.{recode-determined}
 use Rattle.promises.proofs.Tape as Taping
 use Rattle.promises.proofs.Check as Checking
 use Rattle.promises.proofs.Check.{Legal, check-yes, check-yes-only, nonadjacent-yes-only}
-use Rattle.promises.proofs.Known.{Answered, allowed, answered, Written, taped, ranTo, ran, eleventh}
+use Rattle.promises.proofs.Known.{Answered, allowed, answered, Written, taped, ranTo, ran, eleventh, twelfth}
+use Rattle.promises.proofs.Cost.{run-costs}
 use Rattle.promises.proofs.Demand3.{taped-additions, taped-doublings}
 use Rattle.promises.proofs.Instances.{recode-kept-by, check-kept-by, nonadjacent-kept-by, tape-kept-by, run-kept-by}
 
@@ -222,6 +223,13 @@ module _ (c : Runner) where
       r .refusal ≡ 0 → (r .doublings ≢ doublings ws) ⊎ (r .additions ≢ additions ws) → ⊥
   run-not-inventing w ws m g multiples₀ z (inl n) = n (c .keeps w ws m g multiples₀ .doublings-are ∙ granted-all _ (doublings ws) z)
   run-not-inventing w ws m g multiples₀ z (inr n) = n (c .keeps w ws m g multiples₀ .additions-are ∙ granted-all _ (additions ws) z)
+
+  -- the doubling left out of the cost of the multiples
+  pub run-not-short : ((w : ℕ) (ws : List ℕ) (m g : ℕ) (multiples₀ : List ℕ) → c .call w ws m g multiples₀ .cost .doublings ≡ 0) → ⊥
+  run-not-short r =
+      let (e, _) = ran 3 _ _ 10 9 8 4 1 (9 ∷ 7 ∷ []) twelfth (9 ∷ 9 ∷ []) (lit≤ tt) _ _ (c .keeps 3 _ 10 9 (9 ∷ 9 ∷ [])) in
+      let z : _≡_ {A = ℕ} 1 0 = sym (run-costs (c .call 3 _ 10 9 (9 ∷ 9 ∷ [])) (c .keeps 3 _ 10 9 (9 ∷ 9 ∷ [])) (ap (λ (x : Ran). x .refusal) e) .doubling-above (lit< tt)) ∙ r 3 _ 10 9 (9 ∷ 9 ∷ []) in
+      omega arith
 
   -- the modulus looked at before the width
   pub run-not-swapped : ((w : ℕ) (ws : List ℕ) (g : ℕ) (multiples₀ : List ℕ) → c .call w ws 0 g multiples₀ .refusal ≡ 12) → ⊥

@@ -1,7 +1,7 @@
 -- The promise of run: two outcomes that satisfy it for one input are equal, on the plain numbers and on the enum of the answer. Assumes nothing.
 use mathlib.Core.Path.{_≡_, sym, ap, _∙_}
 use mathlib.Core.List.{List, _++_}
-use Prim.Native.Nat.{ℕ, _-_}
+use Prim.Native.Nat.{ℕ}
 use native.Mathlib.Decide.{ℕ-discrete}
 use lib.IntN.{ℤ, pos, _*ℤ_}
 use lib.ListN.{length, drop}
@@ -9,6 +9,7 @@ use Rattle.laws.proofs.Division.{same-floor}
 use Rattle.meaning.specs.Digits.{largest, entries}
 use Rattle.meaning.specs.Refusals.{granted, kept}
 use Rattle.meaning.specs.Walks.{tapeValue, doublings, additions}
+use Rattle.meaning.specs.Multiples.{costOf}
 use Rattle.meaning.specs.Running as Running
 use Rattle.meaning.specs.Running.{multiplesOf, Residue, runRules, Run}
 use Rattle.forms.proofs.Refusals.{first-only}
@@ -23,8 +24,8 @@ residue-same m z x y a b = same-floor m (a .quotient) (b .quotient) x y (sym (a 
 
 module _ (w : ℕ) (ws : List ℕ) (m g : ℕ) (multiples₀ : List ℕ) where
   -- on plain numbers
-  told : (r p x d n c : ℕ) → Running.Ran
-  told r p x d n c = record { refusal = r; place = p; residue = x; doublings = d; additions = n; cost = c }
+  told : (r p x d n k l : ℕ) → Running.Ran
+  told r p x d n k l = record { refusal = r; place = p; residue = x; doublings = d; additions = n; cost = record { doublings = k; additions = l } }
 
   pub run-plain : (a b : Running.Ran) (ms ns : List ℕ) → Run w ws m g multiples₀ a ms → Run w ws m g multiples₀ b ns → (a ≡ b) × (ms ≡ ns)
   unfolding told
@@ -34,8 +35,10 @@ module _ (w : ℕ) (ws : List ℕ) (m g : ℕ) (multiples₀ : List ℕ) where
       let x = same r (ℕ-discrete (a .refusal) 0) in
       let d = K .doublings-are ∙ ap (λ t. granted t (doublings ws)) r ∙ sym (L .doublings-are) in
       let n = K .additions-are ∙ ap (λ t. granted t (additions ws)) r ∙ sym (L .additions-are) in
-      let c = K .cost-is ∙ ap (λ t. granted t (count - 1)) r ∙ sym (L .cost-is) in
-      let e : told (a .refusal) (a .place) (a .residue) (a .doublings) (a .additions) (a .cost) ≡ told (b .refusal) (b .place) (b .residue) (b .doublings) (b .additions) (b .cost) = cc in
+      let k = K .cost-doublings-are ∙ ap (λ t. granted t (costOf count .doublings)) r ∙ sym (L .cost-doublings-are) in
+      let l = K .cost-additions-are ∙ ap (λ t. granted t (costOf count .additions)) r ∙ sym (L .cost-additions-are) in
+      let e : told (a .refusal) (a .place) (a .residue) (a .doublings) (a .additions) (a .cost .doublings) (a .cost .additions)
+      ≡ told (b .refusal) (b .place) (b .residue) (b .doublings) (b .additions) (b .cost .doublings) (b .cost .additions) = cc in
       (e, K .multiples-are ∙ ap (λ t. kept t (multiplesOf count m g ++ drop count multiples₀) multiples₀) r ∙ sym (L .multiples-are))
     where
       same : a .refusal ≡ b .refusal → Dec (a .refusal ≡ 0) → a .residue ≡ b .residue
@@ -50,8 +53,8 @@ module _ (w : ℕ) (ws : List ℕ) (m g : ℕ) (multiples₀ : List ℕ) where
   outcome-same (variants.Refused f) (variants.Refused g) n k r p e =
       ap (λ x. variants.Refused (record { number = x; place = f .place })) r ∙ ap (λ x. variants.Refused (record { number = g .number; place = x })) p
 
-  made : Outcome → (d n c : ℕ) → Ran
-  made o d n c = record { outcome = o; doublings = d; additions = n; cost = c }
+  made : Outcome → (d n k l : ℕ) → Ran
+  made o d n k l = record { outcome = o; doublings = d; additions = n; cost = record { doublings = k; additions = l } }
 
   -- on the enum of the answer
   pub run-determined : (a b : Ran) (ms ns : List ℕ) → Promise w ws m g multiples₀ a ms → Promise w ws m g multiples₀ b ns → (a ≡ b) × (ms ≡ ns)
@@ -61,6 +64,7 @@ module _ (w : ℕ) (ws : List ℕ) (m g : ℕ) (multiples₀ : List ℕ) where
       let o = outcome-same (a .outcome) (b .outcome) (P .numbered) (Q .numbered) (ap (λ (x : Running.Ran). x .refusal) q) (ap (λ (x : Running.Ran). x .place) q) (ap (λ (x : Running.Ran). x .residue) q) in
       let d = ap (λ (x : Running.Ran). x .doublings) q in
       let n = ap (λ (x : Running.Ran). x .additions) q in
-      let c = ap (λ (x : Running.Ran). x .cost) q in
-      let same : made (a .outcome) (a .doublings) (a .additions) (a .cost) ≡ made (b .outcome) (b .doublings) (b .additions) (b .cost) = cc in
+      let k = ap (λ (x : Running.Ran). x .cost .doublings) q in
+      let l = ap (λ (x : Running.Ran). x .cost .additions) q in
+      let same : made (a .outcome) (a .doublings) (a .additions) (a .cost .doublings) (a .cost .additions) ≡ made (b .outcome) (b .doublings) (b .additions) (b .cost .doublings) (b .cost .additions) = cc in
       (same, e)

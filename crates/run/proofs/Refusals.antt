@@ -11,6 +11,7 @@ use Rattle.meaning.specs.Digits.{largest, entries}
 use Rattle.meaning.specs.Refusals.{Rule}
 use Rattle.meaning.specs.Words.{mostWords, entryOf, plus, minus}
 use Rattle.meaning.specs.Walks.{walk, multiple, tapeValue, doublings, additions, Good}
+use Rattle.meaning.specs.Multiples.{costOf}
 use Rattle.meaning.specs.Running as Running
 use Rattle.meaning.specs.Running.{runRules, multiplesOf}
 use Rattle.forms.proofs.Refusals.{Until, numberAt, number-some, first-at, first-none, granted-none, kept-lent}
@@ -20,6 +21,7 @@ use Rattle.walk.specs.Steps.{Reached}
 use Rattle.walk.specs.Residues.{residues, multiples}
 use Rattle.walk.proofs.Walk.{Tables, walk-same}
 use Rattle.walk.proofs.Residues.{walk-residue-is}
+use Rattle.run.specs.declared.Cost.{Cost}
 use Rattle.run.specs.declared.Outcome.the-variants.{Residue}
 use Rattle.run.specs.declared.Ran.{Ran}
 use Rattle.run.specs.declared.State.{State}
@@ -48,7 +50,8 @@ module _ (w : ℕ) (ws : List ℕ) (m g : ℕ) (multiples₀ : List ℕ) where
               residue-none = λ z. refl;
               doublings-are = sym (granted-none i (doublings ws) n);
               additions-are = sym (granted-none i (additions ws) n);
-              cost-is = sym (granted-none i (count - 1) n);
+              cost-doublings-are = sym (granted-none i (costOf count .doublings) n);
+              cost-additions-are = sym (granted-none i (costOf count .additions) n);
               multiples-are = sym (kept-lent i (multiplesOf count m g ++ drop count multiples₀) multiples₀ n);
             };
         numbered = n;
@@ -79,9 +82,10 @@ module _ (w : ℕ) (ws : List ℕ) (m g : ℕ) (multiples₀ : List ℕ) where
           }
 
       -- and no rule applies: the residue, the counts and the cost
-      pub accepts : {s : State} {cost : ℕ} → Reached (residues m) (tableOf m stored) ws (s .value) (s .doublings) (s .additions) → cost ≡ count - 1
+      pub accepts : {s : State} {cost : Cost} → Reached (residues m) (tableOf m stored) ws (s .value) (s .doublings) (s .additions)
+          → cost .doublings ≡ costOf count .doublings → cost .additions ≡ costOf count .additions
           → Promise w ws m g multiples₀ (record { outcome = Residue (s .value); doublings = s .doublings; additions = s .additions; cost = cost }) stored
-      accepts {s} h c =
+      accepts {s} h d n =
           let value : walk (residues m) (multiples m g) ws ≡ s .value = walk-same (residues m) count held-tables ws (λ j l. good j l .entry) ∙ sym (h .value-is) in
           record {
             run =
@@ -91,7 +95,8 @@ module _ (w : ℕ) (ws : List ℕ) (m g : ℕ) (multiples₀ : List ℕ) where
                   residue-none = λ z. absurd (z refl);
                   doublings-are = h .doublings-are;
                   additions-are = h .additions-are;
-                  cost-is = c;
+                  cost-doublings-are = d;
+                  cost-additions-are = n;
                   multiples-are = e;
                 };
             numbered = tt;

@@ -5,6 +5,7 @@ ghost use Prim.Native.Nat.{ℕ, _+_, _%_, _≤_, _<_};
 ghost use lib.Dec.{ltb};
 ghost use lib.ListN.{length, getD, drop};
 ghost use Rattle.meaning.specs.Words.{mostWords};
+ghost use Rattle.meaning.specs.Multiples.{costOf};
 ghost use Rattle.meaning.specs.Running.{multiplesOf};
 ghost use Rattle.walk.specs.Steps.{Stepped, Reached};
 ghost use Rattle.walk.specs.Residues.{residues};
@@ -77,6 +78,29 @@ fn store(count: usize, modulus: u32, base: u32, multiples: &mut [u32])
         multiples[e] = multiple;
         multiple = plus(multiple, twice, modulus);
         e += 1;
+    }
+}
+
+// What the multiples cost: to make more than the base itself, it is doubled once, and that double added for each.
+#[repr(C)]
+pub struct Cost {
+    pub doublings: u16,
+    pub additions: u16,
+}
+
+fn cost_of(count: usize) -> Cost
+    requires { ⌜ count ≤ 64 ⌝ }
+    ensures { λ r. ⌜ (r .doublings ≡ costOf count .doublings) × (r .additions ≡ costOf count .additions) ⌝ }
+{
+    if count < 2 {
+        return Cost {
+            doublings: 0,
+            additions: 0,
+        };
+    }
+    Cost {
+        doublings: 1,
+        additions: (count - 1) as u16,
     }
 }
 
@@ -159,12 +183,12 @@ pub enum Outcome {
     Refused(Refusal),
 }
 
-// The outcome, the doublings and additions done, and what the multiples cost in additions.
+// The outcome, the doublings and additions done, and beside them what the multiples cost.
 pub struct Ran {
     pub outcome: Outcome,
     pub doublings: u16,
     pub additions: u16,
-    pub cost: u16,
+    pub cost: Cost,
 }
 
 fn refused(number: u8, place: u16) -> Ran
@@ -174,7 +198,10 @@ fn refused(number: u8, place: u16) -> Ran
         outcome: Outcome::Refused(Refusal { number, place }),
         doublings: 0,
         additions: 0,
-        cost: 0,
+        cost: Cost {
+            doublings: 0,
+            additions: 0,
+        },
     }
 }
 
@@ -201,11 +228,10 @@ pub fn run(width: u8, tape: &[u16], modulus: u32, base: u32, multiples: &mut [u3
     }
     store(count, modulus, base, multiples);
     let state = reach(tape, modulus, multiples);
-    let cost = (count - 1) as u16;
     Ran {
         outcome: Outcome::Residue(state.value),
         doublings: state.doublings,
         additions: state.additions,
-        cost,
+        cost: cost_of(count),
     }
 }

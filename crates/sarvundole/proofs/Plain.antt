@@ -7,7 +7,7 @@ use lib.IntN.{ℤ}
 use Rattle.meaning.specs.Running.{Run}
 use Rattle.run.specs.declared.Outcome.{Outcome}
 use Rattle.run.specs.declared.Ran.{Ran}
-use Rattle.run.specs.Outcomes.{refusalOf, placeOf, residueOf, Promise}
+use Rattle.run.specs.Outcomes.{refusalOf, placeOf, residueOf, costed, Promise}
 use Rattle.reader.specs.declared.Reading.{Reading}
 use Rattle.reader.specs.declared.State.{State}
 use Rattle.reader.specs.declared.Taken.{Taken}
@@ -20,10 +20,10 @@ use Rattle.sarvundole.specs.Steps.{Steps}
 -- a run whose outcome is o
 pub told : {w : ℕ} {ws : List ℕ} {m g : ℕ} {multiples₀ : List ℕ} {r : Ran} {multiples : List ℕ} {o : Outcome}
     → r .outcome ≡ o → Promise w ws m g multiples₀ r multiples
-    → Run w ws m g multiples₀ (record { refusal = refusalOf o; place = placeOf o; residue = residueOf o; doublings = r .doublings; additions = r .additions; cost = r .cost }) multiples
+    → Run w ws m g multiples₀ (record { refusal = refusalOf o; place = placeOf o; residue = residueOf o; doublings = r .doublings; additions = r .additions; cost = costed (r .cost) }) multiples
 told {w} {ws} {m} {g} {multiples₀} {r} {multiples} q p =
     subst
-    (λ o. Run w ws m g multiples₀ (record { refusal = refusalOf o; place = placeOf o; residue = residueOf o; doublings = r .doublings; additions = r .additions; cost = r .cost }) multiples)
+    (λ o. Run w ws m g multiples₀ (record { refusal = refusalOf o; place = placeOf o; residue = residueOf o; doublings = r .doublings; additions = r .additions; cost = costed (r .cost) }) multiples)
     q
     (p .run)
 

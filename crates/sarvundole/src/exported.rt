@@ -16,6 +16,7 @@ ghost use Rattle.sarvundole.specs.Steps.{Steps};
 use digits::Tally;
 use reader::Next;
 use reader::State;
+use run::Cost;
 use run::Outcome;
 use search::Searched;
 use tape::Taped;
@@ -28,7 +29,7 @@ pub struct Ran {
     pub residue: u32,
     pub doublings: u16,
     pub additions: u16,
-    pub cost: u16,
+    pub cost: Cost,
 }
 
 // `given` is 1 where there is a digit, and 0 where the reader is done.
@@ -104,6 +105,7 @@ pub extern "C" fn sarvundole_run(
 {
     let made = run::run(width, tape, modulus, base, multiples);
     let outcome = made.outcome;
+    let cost = made.cost;
     match outcome {
         Outcome::Residue(residue) => Ran {
             refusal: 0,
@@ -111,7 +113,7 @@ pub extern "C" fn sarvundole_run(
             residue,
             doublings: made.doublings,
             additions: made.additions,
-            cost: made.cost,
+            cost,
         },
         Outcome::Refused(refused) => Ran {
             refusal: refused.number,
@@ -119,7 +121,7 @@ pub extern "C" fn sarvundole_run(
             residue: 0,
             doublings: made.doublings,
             additions: made.additions,
-            cost: made.cost,
+            cost,
         },
     }
 }

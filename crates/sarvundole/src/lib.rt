@@ -19,6 +19,7 @@ pub use recoder::MOF;
 pub use recoder::WMOF;
 pub use recoder::WNAF;
 pub use recoder::recode;
+pub use run::Cost;
 pub use run::Outcome;
 pub use run::Ran;
 pub use run::Refusal;

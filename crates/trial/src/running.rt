@@ -1,5 +1,5 @@
-// Call 05: width 1, multiples lent 2, modulus 4, base 4, tape words. It answers refusal 1, place 2, residue 4, doublings 2, additions 2, cost 2, the
-// multiples lent.
+// Call 05: width 1, multiples lent 2, modulus 4, base 4, tape words. It answers refusal 1, place 2, residue 4, doublings 2, additions 2, cost additions 2, cost
+// doublings 2, the multiples lent.
 use crate::frames;
 use crate::lent;
 use crate::print;
@@ -36,14 +36,16 @@ fn put_outcome(outcome: Outcome, out: &mut [u8]) -> usize
 
 // What a run returns, at the front.
 fn put_ran(ran: Ran, out: &mut [u8]) -> usize
-    requires { ⌜ 26 ≤ length (now out) ⌝ }
-    ensures { λ r. ⌜ r ≡ 26 ⌝ }
+    requires { ⌜ 30 ≤ length (now out) ⌝ }
+    ensures { λ r. ⌜ r ≡ 30 ⌝ }
 {
     let outcome = ran.outcome;
     let at = put_outcome(outcome, out);
     let at = print::number(ran.doublings as u64, 2, at, out);
     let at = print::number(ran.additions as u64, 2, at, out);
-    print::number(ran.cost as u64, 2, at, out)
+    let cost = ran.cost;
+    let at = print::number(cost.additions as u64, 2, at, out);
+    print::number(cost.doublings as u64, 2, at, out)
 }
 
 fn put_multiples(multiples: &[u32], at: usize, out: &mut [u8]) -> usize
@@ -70,8 +72,8 @@ fn made(
     out: &mut [u8],
 ) -> usize
     requires { ⌜ length (now given) ≡ 2 * length (now tape) ⌝ }
-    requires { ⌜ 26 + 8 * length (now multiples) ≤ length (now out) ⌝ }
-    ensures { λ r. ⌜ r ≡ 26 + 8 * length (now (multiples .entry)) ⌝ }
+    requires { ⌜ 30 + 8 * length (now multiples) ≤ length (now out) ⌝ }
+    ensures { λ r. ⌜ r ≡ 30 + 8 * length (now (multiples .entry)) ⌝ }
 {
     frames::words(given, tape);
     let ran = run::run(width, tape, modulus, base, multiples);

@@ -4,3 +4,4 @@ pub mod Steps
 pub mod Lengths
 pub mod Tapes
 pub mod Residues
+pub mod Multiples

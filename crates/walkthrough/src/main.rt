@@ -138,21 +138,27 @@ fn run(count: usize, words: &[u16], multiples: &mut [u32]) -> Ran
     sarvundole::run(WIDTH, &words[..count], MODULUS, BASE, multiples)
 }
 
+fn counts(doublings: u16, additions: u16) {
+    text(b"doublings ");
+    number(doublings as u64);
+    text(b", additions ");
+    number(additions as u64);
+}
+
 fn ran(count: usize, words: &[u16], multiples: &mut [u32]) {
     if words.len() < count {
         return;
     }
     let made = run(count, words, multiples);
     let outcome = made.outcome;
+    let cost = made.cost;
     match outcome {
         Outcome::Refused(why) => refused(why.number, why.place),
         Outcome::Residue(residue) => {
-            number(made.doublings as u64);
-            text(b" doublings, ");
-            number(made.additions as u64);
-            text(b" additions, and ");
-            number(made.cost as u64);
-            text(b" for the multiples\nresidue ");
+            counts(made.doublings, made.additions);
+            text(b"; of the multiples: ");
+            counts(cost.doublings, cost.additions);
+            text(b"\nresidue ");
             number(residue as u64);
             text(b" of the number times ");
             number(BASE as u64);

@@ -1,11 +1,12 @@
 -- `run::run` meets its contract: each return is one answer. Assumes nothing.
 use mathlib.Core.Path.{_≡_, refl, ap, subst, _∙_}
 use mathlib.Core.List.{_++_}
-use Prim.Native.Nat.{ℕ, _-_, _<_, _≤_}
+use Prim.Native.Nat.{ℕ, _<_, _≤_}
 use native.Mathlib.Omega.{arith}
 use lib.ListN.{length, getD, drop}
 use Rattle.meaning.specs.Digits.{largest, entries}
 use Rattle.meaning.specs.Walks.{Good}
+use Rattle.meaning.specs.Multiples.{costOf}
 use Rattle.meaning.specs.Running.{multiplesOf}
 use Rattle.width.specs.Widths.{Wide}
 use Rattle.width.proofs.Widths.{known-largest, known-wide, known-lawful, known-bad, entries-some, width-fine}
@@ -104,25 +105,25 @@ reach-requires c κs =
           (omega (arith, count-is n, f .before .if3 .left)) (good f (t .before .before .if4 .left)) (stored-are t),
     )
 
-sub-cost : tie.Need-sub-cost
-sub-cost c = few (c .before .before .before .before .before .before .before .before .before) .0
-
-cast-cost : tie.Need-cast-cost
-cast-cost c = omega (arith, few (c .before .before .before .before .before .before .before .before .before) .1)
+cost-of-requires : tie.Need-cost-of-requires
+cost-of-requires c κs = few (c .before .before .before .before .before .before .before .before .before) .1
 
 returns-6 : tie.Need-returns-6
 returns-6 c =
-    let t = c .before .before .before .before in
+    let r = c .before in
+    let t = r .before .before .before .before in
     let f = t .before .before .before in
     let n = f .before .before in
     let k = n .before .before .before .before in
     let a = start k .args in
+    let (d, e) = c .cost-of .ensures in
     accepts (a .width) (a .tape .now) (a .modulus) (a .base) (a .multiples .now) (wide k) (n .before .before .if1 .left) (n .before .if2 .left)
-    (omega (arith, count-is n, f .before .if3 .left)) (good f (t .before .before .if4 .left)) (stored-are t) (c .reach .ensures) (ap (λ x. x - 1) (count-is n))
+    (omega (arith, count-is n, f .before .if3 .left)) (good f (t .before .before .if4 .left)) (stored-are t) (r .reach .ensures)
+    (d ∙ ap (λ j. costOf j .doublings) (count-is n)) (e ∙ ap (λ j. costOf j .additions) (count-is n))
 
 pub run-spec : {M : Type 1} → statement M
 run-spec =
     tie.close
     (tie.spec (λ c κs. search needs) (λ c. search needs) (λ c. search needs) (λ c κs. search needs) returns (λ c κs. search needs) returns-2 (λ c κs. search needs)
     returns-3 (λ c κs. search needs) (λ c κs. search needs) returns-4 first-bad-requires (λ c. search needs) (λ c κs. search needs) returns-5 store-requires
-    reach-requires sub-cost cast-cost (λ c. search needs) returns-6)
+    reach-requires cost-of-requires (λ c. search needs) returns-6)

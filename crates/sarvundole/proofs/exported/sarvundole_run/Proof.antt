@@ -5,10 +5,10 @@ use Rattle.sarvundole.proofs.exported.sarvundole_run.Statement.{stateme
 use Rattle.sarvundole.proofs.exported.sarvundole_run.Tie as tie
 
 returns : tie.Need-returns
-returns c = told (c .before .outcome .given .1) (c .before .before .before .before .before .run .ensures)
+returns c = told (c .before .outcome .given .1) (c .before .before .before .before .before .before .run .ensures)
 
 returns-2 : tie.Need-returns-2
-returns-2 c = told (c .before .outcome2 .given .1) (c .before .before .before .before .before .run .ensures)
+returns-2 c = told (c .before .outcome2 .given .1) (c .before .before .before .before .before .before .run .ensures)
 
 pub sarvundole-run-spec : {M : Type 1} → statement M
 sarvundole-run-spec =
