@@ -11,8 +11,8 @@ ghost use Rattle.windows.specs.Openings.{Placed};
 ghost use Rattle.recoder.specs.Sweeps.{Clear, Swept, Turns, Turned};
 use crate::opened;
 use crate::places;
-use rows::Window;
 use scalar::STRETCH;
+use table::Window;
 use windows::opening::Place;
 
 // The lowest place from `floor` up whose window lies in one stretch with the window of the highest place that is left.

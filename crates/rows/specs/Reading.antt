@@ -3,7 +3,7 @@ use mathlib.Core.Path.{_≡_}
 use Prim.Native.Nat.{ℕ, _+_, _-_, _*_, _/_, _%_, _^_, _<_}
 use lib.IntN.{ℤ, pos, _+ℤ_}
 use Rattle.table.specs.Tables.{unitOf, twosOf}
-use Rattle.rows.specs.declared.Window.{Window}
+use Rattle.table.specs.declared.Window.{Window}
 
 -- the byte of a column: the first is the highest
 abbrev pub byteAt : (word column : ℕ) → ℕ

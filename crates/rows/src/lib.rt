@@ -7,12 +7,7 @@ ghost use Rattle.meaning.specs.Windows.{tableLength};
 ghost use Rattle.table.specs.Tables.{unitOf, twosOf, Table};
 ghost use Rattle.rows.specs.Reading.{Row, Entry, Read};
 use table::ENTRIES;
-
-// u and k of a window.
-pub struct Window {
-    pub unit: i8,
-    pub twos: u8,
-}
+use table::Window;
 
 // How many entries a row has, and how many rows there are.
 const ROW: usize = 8;
@@ -55,13 +50,14 @@ fn eight_twos(entries: &[i8; ENTRIES], row: usize, from: usize) -> u64
 }
 
 // A row of u. The test tells the compiler that every other row has an arm, so that nothing is left for the last one, which alone reads at a place that is not known.
+// The loop in `arms`, beside `src`, prints the arms.
 fn units_row(row: usize) -> u64
-    requires { ⌜ row < 127 ⌝ }
+    requires { ⌜ 8 * row < tableLength ⌝ }
     ensures { λ r. ⌜ Row unitOf row r ⌝ }
 {
     let all = table::units();
     if ROWS - 1 <= row {
-        return eight_units(&all, row, 1008);
+        return eight_units(&all, row, ENTRIES - ROW);
     }
     match row {
         0 => eight_units(&all, row, 0),
@@ -196,12 +192,12 @@ fn units_row(row: usize) -> u64
 
 // A row of k, in the same way.
 fn twos_row(row: usize) -> u64
-    requires { ⌜ row < 127 ⌝ }
+    requires { ⌜ 8 * row < tableLength ⌝ }
     ensures { λ r. ⌜ Row twosOf row r ⌝ }
 {
     let all = table::twos();
     if ROWS - 1 <= row {
-        return eight_twos(&all, row, 1008);
+        return eight_twos(&all, row, ENTRIES - ROW);
     }
     match row {
         0 => eight_twos(&all, row, 0),

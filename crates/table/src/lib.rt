@@ -4,6 +4,12 @@ ghost use Rattle.table.specs.Tables.{unitOf, twosOf, Table};
 
 pub const ENTRIES: usize = 1016;
 
+// u and k of a window.
+pub struct Window {
+    pub unit: i8,
+    pub twos: u8,
+}
+
 // u
 const UNIT: [i8; ENTRIES] = [
     // width 2

@@ -18,7 +18,7 @@ use Rattle.meaning.specs.Digits.{mostWidth}
 use Rattle.meaning.specs.Windows.{leading, second, windowWorth, twos, shrink, oddPart, entryUnit, entryTwos}
 use Rattle.forms.proofs.Block.{unit-block}
 use Rattle.width.specs.Widths.{Wide}
-use Rattle.rows.specs.declared.Window.{Window}
+use Rattle.table.specs.declared.Window.{Window}
 use Rattle.windows.specs.Parts.{Parts}
 use Rattle.windows.proofs.Sizes.{Sized, signed, double, rise, fall}
 

@@ -16,7 +16,7 @@ use Rattle.laws.proofs.Choices.{no-is, not-equal}
 use Rattle.laws.proofs.Integers.{sub-none}
 use Rattle.forms.proofs.Rest.{bits-top, bits-next, rest, differ}
 use Rattle.forms.proofs.Wmof.{At, step-at, window-step}
-use Rattle.rows.specs.declared.Window.{Window}
+use Rattle.table.specs.declared.Window.{Window}
 use Rattle.windows.specs.declared.opening.Place.{Place}
 use Rattle.windows.specs.Openings.{Tells, Placed}
 use Rattle.windows.specs.Parts.{Parts}

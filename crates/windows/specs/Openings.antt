@@ -4,7 +4,7 @@ use mathlib.Core.Logic.{_≢_}
 use mathlib.Core.Bool.{Bool, true, false}
 use Prim.Native.Nat.{ℕ, _+_, _-_}
 use Rattle.meaning.specs.Windows.{leading, second}
-use Rattle.rows.specs.declared.Window.{Window}
+use Rattle.table.specs.declared.Window.{Window}
 use Rattle.windows.specs.declared.opening.Place.{Place}
 
 -- whether the two leading bits of window s are different

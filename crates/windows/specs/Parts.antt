@@ -2,7 +2,7 @@
 use mathlib.Core.Path.{_≡_}
 use Prim.Native.Nat.{ℕ, _-_, _^_, _<_}
 use lib.IntN.{ℤ, natAbs}
-use Rattle.rows.specs.declared.Window.{Window}
+use Rattle.table.specs.declared.Window.{Window}
 
 -- r holds u and k at width w: u is below 2 ^ (w - 1) in size, and k below w
 pub record Parts (w : ℕ) (u : ℤ) (k : ℕ) (r : Window) : Type 0 where

@@ -8,7 +8,7 @@ ghost use lib.IntN.{pos, _-ℤ_};
 ghost use Rattle.meaning.specs.Windows.{leading, second, windowWorth, twos, oddPart, entryUnit, entryTwos};
 ghost use Rattle.width.specs.Widths.{Wide};
 ghost use Rattle.windows.specs.Parts.{Parts};
-use rows::Window;
+use table::Window;
 use width::Width;
 
 // Window s looked up: u and k are 0 where its two leading bits are equal.

@@ -4,7 +4,7 @@ ghost use mathlib.Core.Path.{_≡_};
 ghost use Rattle.meaning.specs.Digits.{mostPlaces};
 ghost use Rattle.width.specs.Widths.{Wide};
 ghost use Rattle.windows.specs.Openings.{Tells, Placed};
-use rows::Window;
+use table::Window;
 
 // A window's digit and its place, and how many places are left under the window.
 pub struct Place {
