@@ -7,8 +7,9 @@ from trying every digit. The functions are short and slow; that they and the lib
 
     python3 tests/second.py write    writes stdin and stdout of the programs recode and trial
     python3 tests/second.py check    makes them again and says where what is stored differs (exit 1)
+    python3 tests/second.py widths   weighs every scalar of one and of two bytes at every width, in every form but MOF; minutes
 
-Both first hold the definitions against each other (`own_checks`). The lines themselves are made in cases.py.
+The first two hold the definitions against each other before (`own_checks`). The lines themselves are made in cases.py.
 
 The trial program
 -----------------
@@ -137,6 +138,7 @@ def wmof(n, bits, width):
     return digits
 
 
+@functools.lru_cache(maxsize=2**16)
 def nearest(r, width, favoured):
     """The candidate u * 2^i closest to r, the favoured one on a tie, as (u, i): 1 for the smaller absolute value, -1 for the larger.
 
@@ -575,10 +577,20 @@ def check_tapes():
             assert reader(width, scalar, 17)[1] == form_digits(WMOF, width, scalar)[::-1]
 
 
+def check_widths(size):
+    """More width never costs additions: at the next width no scalar of so many bytes weighs more, in any form but MOF, whose width is 2."""
+    for n in range(256**size):
+        scalar = n.to_bytes(size, "big")
+        for form in (WNAF, WMOF, CLOSEST, SMALLER):
+            weights = [weight(form_digits(form, width, scalar)) for width in range(LEAST_WIDTH, MOST_WIDTH + 1)]
+            assert weights == sorted(weights, reverse=True), (form, scalar, weights)
+
+
 def own_checks():
     check_forms()
     check_nearest()
     check_tapes()
+    check_widths(1)
 
 
 # ---- stored files
@@ -602,8 +614,12 @@ def differing_line(a, b):
 
 
 def main(words):
-    if words not in (["write"], ["check"]):
-        sys.exit("usage: second.py write | check")
+    if words not in (["write"], ["check"], ["widths"]):
+        sys.exit("usage: second.py write | check | widths")
+    if words == ["widths"]:
+        check_widths(1)
+        check_widths(2)
+        return print("second.py: no scalar of one or two bytes weighs more at the next width")
     own_checks()
     root = os.path.dirname(os.path.dirname(os.path.abspath(__file__)))
     for path, made in stored_files().items():

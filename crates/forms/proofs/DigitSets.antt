@@ -1,12 +1,12 @@
--- The digit set D_w by tests, as the meaning has it, and as the odd digits of the derivations; the digit 2 ^ (w - 1) is not in it. Assumes nothing.
+-- The digit set D_w by tests, as the meaning has it, and as the odd digits of the derivations; the digit 2 ^ (w - 1) is not in it; a larger set has all digits of a smaller. Assumes nothing.
 use mathlib.Core.Path.{_≡_, ap}
 use mathlib.Core.Logic.{_≢_, _⊎_, inl, inr}
-use mathlib.Core.Bool.{_&&_}
+use mathlib.Core.Bool.{Bool, true, false, _&&_, _||_}
 use mathlib.Core.List.{List, [], _∷_}
 use Prim.Native.Nat.{ℕ, _-_, _%_, _^_, _≤_}
 use native.Mathlib.Omega.{arith}
 use lib.Dec.{T, leb, eqb, eqb→eq, leb→le, le→leb}
-use lib.Pow.{pow-pos}
+use lib.Pow.{pow-pos, pow-mono}
 use lib.IntN.{ℤ, ℤ-discrete, pos, natAbs, _*ℤ_, _+ℤ_}
 use Rattle.laws.proofs.Integers.{parts, diffs, ring, abs-is, abs-zero, abs-mul}
 use Rattle.laws.proofs.Division.{Parity, isEven, isOdd, parity}
@@ -68,3 +68,31 @@ module _ (w : ℕ) (one : 1 ≤ w) where
 -- an odd digit is not 0
 pub digit-some : {w : ℕ} {d : ℤ} → Digit w d → d ≢ pos 0
 digit-some {d = d} D e = omega (arith, abs-odd d (D .half) (D .odd), ap natAbs e)
+
+-- ---- a larger set
+module _ {m k : ℕ} (l : m ≤ k) where
+  -- has the digits of a smaller
+  in-larger : (d : ℤ) → T (inSet m d) → T (inSet k d)
+  unfolding inSet
+  in-larger d t = further (eqb (natAbs d) 0) (eqb (natAbs d % 2) 1 && leb (natAbs d) m) (eqb (natAbs d % 2) 1 && leb (natAbs d) k) odd t
+    where
+      further : (p q r : Bool) → (T q → T r) → T (p || q) → T (p || r)
+      further true q r f t = tt
+      further false q r f t = f t
+
+      odd : T (eqb (natAbs d % 2) 1 && leb (natAbs d) m) → T (eqb (natAbs d % 2) 1 && leb (natAbs d) k)
+      odd h =
+          let (o, s) = and-both (eqb (natAbs d % 2) 1) (leb (natAbs d) m) h in
+          and-of (eqb (natAbs d % 2) 1) (leb (natAbs d) k) o (le→leb (natAbs d) k (omega (arith, leb→le (natAbs d) m s)))
+
+  -- and its strings
+  pub all-larger : (ds : List ℤ) → T (allIn m ds) → T (allIn k ds)
+  unfolding allIn
+  all-larger [] t = tt
+  all-larger (d ∷ ds) t =
+      let (a, b) = and-both (inSet m d) (allIn m ds) t in
+      and-of (inSet k d) (allIn k ds) (in-larger d a) (all-larger ds b)
+
+-- and so a larger width has those of a smaller
+pub all-wider : {w v : ℕ} → w ≤ v → (ds : List ℤ) → T (allIn (largest w) ds) → T (allIn (largest v) ds)
+all-wider {w} {v} l ds t = let p : 2 ^ (w - 1) ≤ 2 ^ (v - 1) = pow-mono {i = w - 1} {j = v - 1} (omega arith) in all-larger (omega arith) ds t

@@ -1,5 +1,5 @@
 -- What each form's string has: it exists on n + 1 places, so that no digit is needed above place n; it is one only, worth N, and in D_w; all but MOF have the least weight and
--- keep the bound. Each is shown form by form, and then said by the form's number. Assumes nothing.
+-- keep the bound, and are no heavier at a larger width. Each is shown form by form, and then said by the form's number. Assumes nothing.
 use mathlib.Core.Path.{_≡_, refl, sym, ap, _∙_}
 use mathlib.Core.Logic.{_≢_}
 use mathlib.Core.List.{List}
@@ -15,6 +15,7 @@ use Rattle.meaning.specs.Closest.{larger, smaller}
 use Rattle.meaning.specs.Forms.{Kind, mof, wnaf, wmof, closest, Has, Asked, one, nothing, asked, mostForm, Given, Form}
 use Rattle.forms.specs.Wnaf.{wnafFrom}
 use Rattle.forms.specs.Closest.{closestOf}
+use Rattle.forms.proofs.DigitSets.{all-wider}
 use Rattle.forms.proofs.Mof.{mof-length, mof-digits, mof-worth}
 use Rattle.forms.proofs.Wnaf.{wnaf-is, wnaf-same}
 use Rattle.forms.proofs.Wmof.{wmof-length, wmof-digits, wmof-worth}
@@ -76,6 +77,12 @@ module _ (w N n : ℕ) (two : 2 ≤ w) where
     kind-light wnaf h ds a = wnaf-light w N two a
     kind-light wmof h ds a = rw a (wmof-light w N two n small)
     kind-light (closest tie) h ds a = closest-light w N two a
+
+-- more width: the digits of w are digits of v, over which the string of v is the lightest
+pub kind-wider : (w v N n : ℕ) → 2 ≤ w → w ≤ v → N < 2 ^ n → (k : Kind) → k ≢ mof → (ds es : List ℤ) → Has k w N n ds → Has k v N n es → weight es ≤ weight ds
+kind-wider w v N n two more small k h ds es a b =
+    let wide : 2 ≤ v = omega arith in
+    light-least v N wide (kind-light v N n wide small k h es b) ds (all-wider {w = w} {v = v} (omega arith) ds (kind-digits w N n two small k (λ e. absurd (h e)) ds a)) (kind-worth w N n two small k ds a)
 
 -- ---- by number
 -- 1 to 5 ask for a form, and 1 alone for MOF
@@ -142,3 +149,11 @@ module _ (w N n : ℕ) (two : 2 ≤ w) where
       -- and at most (n + w) / w digits are nonzero, rounded down
       pub form-bound : 2 ≤ f → weight ds ≤ (n + w) / w
       form-bound l = light-bound w N two n small (form-light l)
+
+-- forms from 2 on are no heavier at a larger width
+pub form-wider : (w v N n : ℕ) → 2 ≤ w → w ≤ v → N < 2 ^ n → (f : ℕ) → 2 ≤ f → (ds es : List ℤ) → Form f w N n ds → Form f v N n es → weight es ≤ weight ds
+form-wider w v N n two more small f l ds es a b = go (asked f) refl a b
+  where
+    go : (q : Asked) → asked f ≡ q → Given q w N n ds → Given q v N n es → weight es ≤ weight ds
+    go (one k) e a b = kind-wider w v N n two more small k (λ m. omega (arith, asked-mof f (e ∙ ap one m))) ds es a b
+    go nothing e a b = absurd a

@@ -20,3 +20,4 @@ pub mod Instances
 pub mod Stream
 pub mod Exported
 pub mod Cost
+pub mod Wider
