@@ -3,7 +3,7 @@
 use mathlib.Core.List.{List}
 use Prim.Native.Nat.{ℕ, _+_, _<_, _≤_}
 use lib.ListN.{length}
-use Rattle.cutter.specs.declared.Cut.{Cut}
+use Rattle.trial.specs.declared.input.Stepped.{Stepped}
 
 -- the longest answer, its line feed counted
 abbrev pub mostAnswer : ℕ
@@ -14,7 +14,7 @@ abbrev pub Answered : ℕ → Type 0
 Answered r = r + 1 ≤ mostAnswer
 
 -- a step moves on in a piece, and what is kept is within the line
-pub record Moved (piece line : List ℕ) (r : Cut) : Type 0 where
+pub record Moved (piece line : List ℕ) (r : Stepped) : Type 0 where
   pub moves : 0 < length piece → 0 < r .used
   pub used-within : r .used ≤ length piece
   pub kept-within : r .kept ≤ length line

@@ -5,10 +5,10 @@ use Rattle.walkthrough.proofs.digits_under.Statement.{statement}
 use Rattle.walkthrough.proofs.digits_under.Tie as tie
 
 abbrev Inv-loop : tie.InvT-loop
-Inv-loop top digits j₀ j = Unit
+Inv-loop top digits j₀ goes₀ j goes = Unit
 
 abbrev μ-loop : tie.MeasureT-loop
-μ-loop top digits j₀ j = j
+μ-loop top digits j₀ goes₀ j goes = j
 
 loop-holds : tie.Need-loop-holds Inv-loop μ-loop
 loop-holds c = tt
@@ -40,4 +40,4 @@ returns c = search needs
 pub digits-under-spec : {M : Type 1} → statement M
 digits-under-spec =
     tie.close
-    (tie.spec Inv-loop μ-loop loop-holds sub-j shared-slice-copy-out-digit digit-requires loop-less loop-again loop-less-2 loop-again-2 returns)
+    (tie.spec Inv-loop μ-loop loop-holds sub-j shared-slice-copy-out-digit digit-requires loop-less loop-again loop-less-2 loop-again-2 returns (λ c. search needs))

@@ -6,10 +6,10 @@ use Rattle.walkthrough.proofs.first_words.Statement.{statement}
 use Rattle.walkthrough.proofs.first_words.Tie as tie
 
 abbrev Inv-loop : tie.InvT-loop
-Inv-loop count words i₀ i = Unit
+Inv-loop count words i₀ goes₀ i goes = Unit
 
 abbrev μ-loop : tie.MeasureT-loop
-μ-loop count words i₀ i = count - i
+μ-loop count words i₀ goes₀ i goes = count - i
 
 loop-holds : tie.Need-loop-holds Inv-loop μ-loop
 loop-holds c = tt
@@ -37,4 +37,4 @@ returns c = search needs
 
 pub first-words-spec : {M : Type 1} → statement M
 first-words-spec =
-    tie.close (tie.spec Inv-loop μ-loop loop-holds mul-word shared-slice-read-word word-requires add-i loop-less loop-again returns)
+    tie.close (tie.spec Inv-loop μ-loop loop-holds mul-word shared-slice-read-word word-requires add-i loop-less loop-again returns (λ c. search needs))

@@ -5,10 +5,10 @@ use borrow.Author.Needs.{needs}
 use Rattle.trial.proofs.input.end.Statement.{statement}
 use Rattle.trial.proofs.input.end.Tie as tie
 
-slice-aggregate-write-all : tie.Need-slice-aggregate-write-all
-slice-aggregate-write-all c = simp length-take (omega arith)
+slice-aggregate-written : tie.Need-slice-aggregate-written
+slice-aggregate-written c = simp length-take (omega arith)
 
 pub end-spec : {M : Type 1} → statement M
 end-spec =
     tie.close
-    (tie.spec (λ c κs. search needs) (λ c. search needs) slice-aggregate-write-all (λ c κs. search needs) (λ c. search needs) (λ c. search needs) (λ c. search needs))
+    (tie.spec (λ c κs. search needs) (λ c. search needs) slice-aggregate-written (λ c κs. search needs) (λ c. search needs) (λ c. search needs) (λ c. search needs))
