@@ -10,53 +10,53 @@ static size_t smaller(size_t a, size_t b) { return a < b ? a : b; }
 
 /* ---- the scalar's bits */
 /* Byte q from the low end, 0 above the scalar. */
-static unsigned byte_at(const uint8_t *s, size_t bytes, size_t q) { return q < bytes ? s[bytes - 1 - q] : 0; }
+static unsigned byte_at(uint8_t order, const uint8_t *s, size_t bytes, size_t q) { return q < bytes ? s[order ? q : bytes - 1 - q] : 0; }
 
 /* The `count` bits from place i up: at most nine, so they lie in two bytes. */
-static unsigned bits_at(const uint8_t *s, size_t bytes, size_t i, unsigned count) {
-    unsigned both = byte_at(s, bytes, i / 8 + 1) << 8 | byte_at(s, bytes, i / 8);
+static unsigned bits_at(uint8_t order, const uint8_t *s, size_t bytes, size_t i, unsigned count) {
+    unsigned both = byte_at(order, s, bytes, i / 8 + 1) << 8 | byte_at(order, s, bytes, i / 8);
     return both >> i % 8 & ((1u << count) - 1);
 }
 
 /* The w + 1 bits from place i down, zeros under place 0. */
-static unsigned window_at(const uint8_t *s, size_t bytes, size_t i, unsigned w) {
-    return i >= w ? bits_at(s, bytes, i - w, w + 1) : bits_at(s, bytes, 0, (unsigned)i + 1) << (w - i);
+static unsigned window_at(uint8_t order, const uint8_t *s, size_t bytes, size_t i, unsigned w) {
+    return i >= w ? bits_at(order, s, bytes, i - w, w + 1) : bits_at(order, s, bytes, 0, (unsigned)i + 1) << (w - i);
 }
 
-/* Eight bytes of the list as one number, by one load. */
-static uint64_t load(const uint8_t *at) {
+/* Eight bytes from byte q up, counted from the low end, by one load. */
+static uint64_t load(uint8_t order, const uint8_t *s, size_t bytes, size_t q) {
     uint64_t x;
-    memcpy(&x, at, sizeof x);
-    return __builtin_bswap64(x);
+    memcpy(&x, s + (order ? q : bytes - 8 - q), sizeof x);
+    return order ? x : __builtin_bswap64(x);
 }
 
-/* Eight bytes from byte q up, counted from the low end. Where the scalar ends among them, its highest eight have the rest, if it has so many. */
-static uint64_t word_at(const uint8_t *s, size_t bytes, size_t q) {
-    if (q + 8 <= bytes) return load(s + bytes - 8 - q);
+/* The same from any byte. Where the scalar ends among them, its highest eight have the rest, if it has so many. */
+static uint64_t word_at(uint8_t order, const uint8_t *s, size_t bytes, size_t q) {
+    if (q + 8 <= bytes) return load(order, s, bytes, q);
     if (q >= bytes) return 0;
-    if (bytes >= 8) return load(s) >> 8 * (8 + q - bytes);
+    if (bytes >= 8) return load(order, s, bytes, bytes - 8) >> 8 * (8 + q - bytes);
     uint64_t x = 0;
-    for (size_t k = 0; k < bytes - q; k++) x = x << 8 | s[k];
+    for (size_t k = bytes; k-- > q;) x = x << 8 | byte_at(order, s, bytes, k);
     return x;
 }
 
 /* A stretch is the 56 bits from place i up: wherever it starts, it lies in eight bytes. */
 enum { STRETCH = 56 };
 
-static uint64_t stretch(const uint8_t *s, size_t bytes, size_t i) {
-    return word_at(s, bytes, i / 8) >> i % 8 & (((uint64_t)1 << STRETCH) - 1);
+static uint64_t stretch(uint8_t order, const uint8_t *s, size_t bytes, size_t i) {
+    return word_at(order, s, bytes, i / 8) >> i % 8 & (((uint64_t)1 << STRETCH) - 1);
 }
 
 /* The bits from place i - w up: those under place 0 are zeros. */
-static uint64_t stretch_under(const uint8_t *s, size_t bytes, size_t i, unsigned w) {
+static uint64_t stretch_under(uint8_t order, const uint8_t *s, size_t bytes, size_t i, unsigned w) {
     size_t from = i < w ? 0 : i - w;
-    return stretch(s, bytes, from) << (from + w - i);
+    return stretch(order, s, bytes, from) << (from + w - i);
 }
 
 /* The lowest set bit, or the bit count where none is. */
-static size_t lowest(const uint8_t *s, size_t bytes) {
+static size_t lowest(uint8_t order, const uint8_t *s, size_t bytes) {
     for (size_t q = 0; q < bytes; q++)
-        if (s[bytes - 1 - q]) return 8 * q + (size_t)__builtin_ctz(s[bytes - 1 - q]);
+        if (byte_at(order, s, bytes, q)) return 8 * q + (size_t)__builtin_ctz(byte_at(order, s, bytes, q));
     return 8 * bytes;
 }
 
@@ -75,13 +75,13 @@ static inline void put(string *d, size_t place, int digit) {
 }
 
 /* wNAF, from the lowest place up. x is what remains from place i on, as far as the stretch goes; raised by half the span of a digit, it has the digit in its low bits. */
-static string wnaf(string d, const uint8_t *s, size_t bytes, unsigned w) {
+static string wnaf(string d, uint8_t order, const uint8_t *s, size_t bytes, unsigned w) {
     const uint64_t half = (uint64_t)1 << (w - 1);
     const size_t places = 8 * bytes + 1;
     unsigned carry = 0;
     for (size_t i = 0; i < places;) {
         size_t last = smaller(i + STRETCH - w, places - 1);
-        uint64_t x = stretch(s, bytes, i) + carry;
+        uint64_t x = stretch(order, s, bytes, i) + carry;
         while (x) {
             unsigned zeros = (unsigned)__builtin_ctzll(x);
             size_t at = i + zeros;
@@ -103,10 +103,10 @@ static uint64_t opened(unsigned tail, uint64_t x, size_t count) { return ((x ^ x
 
 static unsigned highest(uint64_t opens) { return 63 - (unsigned)__builtin_clzll(opens); }
 
-static string mof(string d, const uint8_t *s, size_t bytes) {
+static string mof(string d, uint8_t order, const uint8_t *s, size_t bytes) {
     while (d.left > 0) {
         size_t low = d.left < STRETCH - 1 ? 0 : d.left - (STRETCH - 1);
-        uint64_t x = stretch_under(s, bytes, low, 1), opens = opened(0, x, d.left - low);
+        uint64_t x = stretch_under(order, s, bytes, low, 1), opens = opened(0, x, d.left - low);
         if (opens && !d.top) d.top = (unsigned)low + highest(opens) + 1;
         while (opens) {
             unsigned at = highest(opens);
@@ -128,10 +128,10 @@ static inline void put_window(string *d, unsigned w, unsigned bits, unsigned les
 }
 
 /* The windows that open at place `floor` or above. */
-static string sweep(string d, const uint8_t *s, size_t bytes, unsigned w, size_t floor) {
+static string sweep(string d, uint8_t order, const uint8_t *s, size_t bytes, unsigned w, size_t floor) {
     while (d.left > floor) {
         size_t low = d.left < floor + STRETCH - w ? floor : d.left - (STRETCH - w);
-        uint64_t x = stretch_under(s, bytes, low, w), opens = opened(w - 1, x, d.left - low);
+        uint64_t x = stretch_under(order, s, bytes, low, w), opens = opened(w - 1, x, d.left - low);
         while (opens) {
             unsigned at = highest(opens) - (w - 1);
             opens &= ((uint64_t)1 << at) - 1;
@@ -144,21 +144,21 @@ static string sweep(string d, const uint8_t *s, size_t bytes, unsigned w, size_t
 }
 
 /* A closest form is wMOF but for one window, w above the lowest set bit. If it opens there with the two bits in `lead`, it is worth one less, and the lowest set bit ends the string. */
-static string closest(string d, const uint8_t *s, size_t bytes, unsigned w, unsigned lead) {
-    size_t low = lowest(s, bytes), tie = low + w;
-    d = sweep(d, s, bytes, w, tie + 1);
+static string closest(string d, uint8_t order, const uint8_t *s, size_t bytes, unsigned w, unsigned lead) {
+    size_t low = lowest(order, s, bytes), tie = low + w;
+    d = sweep(d, order, s, bytes, w, tie + 1);
     if (d.left == tie + 1) {
-        unsigned bits = window_at(s, bytes, tie, w);
+        unsigned bits = window_at(order, s, bytes, tie, w);
         if (bits >> (w - 1) == lead) {
             put_window(&d, w, bits, 1);
             put(&d, low, 1);
             return d;
         }
     }
-    return sweep(d, s, bytes, w, 0);
+    return sweep(d, order, s, bytes, w, 0);
 }
 
-sarvundole_tally baseline_recode(uint8_t form, uint8_t width, const uint8_t *scalar, size_t bytes, int8_t *digits, size_t places,
+sarvundole_tally baseline_recode(uint8_t form, uint8_t width, uint8_t order, const uint8_t *scalar, size_t bytes, int8_t *digits, size_t places,
                                  uint64_t *marks, size_t words) {
     sarvundole_tally t = {0, 0, 0, 0};
     if (form < 1 || form > 5) t.refusal = 1;
@@ -170,10 +170,10 @@ sarvundole_tally baseline_recode(uint8_t form, uint8_t width, const uint8_t *sca
     string d = {digits, marks, 0, 0, 8 * bytes + 1};
     memset(digits, 0, 8 * bytes + 1);
     memset(marks, 0, SARVUNDOLE_MARK_WORDS * sizeof *marks);
-    if (form == SARVUNDOLE_MOF) d = mof(d, scalar, bytes);
-    else if (form == SARVUNDOLE_WNAF) d = wnaf(d, scalar, bytes, width);
-    else if (form == SARVUNDOLE_WMOF) d = sweep(d, scalar, bytes, width, 0);
-    else d = closest(d, scalar, bytes, width, form == SARVUNDOLE_CLOSEST ? 2 : 1);
+    if (form == SARVUNDOLE_MOF) d = mof(d, order, scalar, bytes);
+    else if (form == SARVUNDOLE_WNAF) d = wnaf(d, order, scalar, bytes, width);
+    else if (form == SARVUNDOLE_WMOF) d = sweep(d, order, scalar, bytes, width, 0);
+    else d = closest(d, order, scalar, bytes, width, form == SARVUNDOLE_CLOSEST ? 2 : 1);
     t.weight = (uint16_t)d.weight;
     t.top = (uint16_t)d.top;
     return t;
@@ -211,7 +211,7 @@ static scanned scan(uint8_t width, const int8_t *digits, size_t places) {
 
 /* ---- the checks */
 /* Eight places are compared with a byte at a time, from the lowest up, with a carry to the next eight. */
-static int worth_is(const uint8_t *scalar, size_t bytes, const int8_t *digits, size_t places) {
+static int worth_is(uint8_t order, const uint8_t *scalar, size_t bytes, const int8_t *digits, size_t places) {
     const size_t whole = places / 8, end = bytes > (places + 7) / 8 ? bytes : (places + 7) / 8;
     int carry = 0;
     for (size_t q = 0; q < end; q++) {
@@ -220,7 +220,7 @@ static int worth_is(const uint8_t *scalar, size_t bytes, const int8_t *digits, s
             for (size_t k = 8; k-- > 0;) sum = 2 * sum + digits[8 * q + k];
         else
             for (size_t j = places; j-- > 8 * q;) sum = 2 * sum + digits[j];
-        sum += carry - (int)byte_at(scalar, bytes, q);
+        sum += carry - (int)byte_at(order, scalar, bytes, q);
         if (sum & 255) return 0;
         carry = sum >> 8;
     }
@@ -247,7 +247,7 @@ static size_t near_place(unsigned w, const int8_t *digits) {
     }
 }
 
-static sarvundole_tally check(uint8_t width, const uint8_t *scalar, size_t bytes, const int8_t *digits, size_t places) {
+static sarvundole_tally check(uint8_t width, uint8_t order, const uint8_t *scalar, size_t bytes, const int8_t *digits, size_t places) {
     sarvundole_tally t = {0, 0, 0, 0};
     if (bad_width(width)) t.refusal = 2;
     else if (bytes > SARVUNDOLE_MOST_BYTES) t.refusal = 3;
@@ -257,7 +257,7 @@ static sarvundole_tally check(uint8_t width, const uint8_t *scalar, size_t bytes
     if (found.bad) {
         t.refusal = 8;
         t.place = (uint16_t)found.place;
-    } else if (!worth_is(scalar, bytes, digits, places)) {
+    } else if (!worth_is(order, scalar, bytes, digits, places)) {
         t.refusal = 9;
     } else {
         t.weight = (uint16_t)found.weight;
@@ -266,12 +266,12 @@ static sarvundole_tally check(uint8_t width, const uint8_t *scalar, size_t bytes
     return t;
 }
 
-sarvundole_tally baseline_check(uint8_t width, const uint8_t *scalar, size_t bytes, const int8_t *digits, size_t places) {
-    return check(width, scalar, bytes, digits, places);
+sarvundole_tally baseline_check(uint8_t width, uint8_t order, const uint8_t *scalar, size_t bytes, const int8_t *digits, size_t places) {
+    return check(width, order, scalar, bytes, digits, places);
 }
 
-sarvundole_tally baseline_check_nonadjacent(uint8_t width, const uint8_t *scalar, size_t bytes, const int8_t *digits, size_t places) {
-    sarvundole_tally t = check(width, scalar, bytes, digits, places);
+sarvundole_tally baseline_check_nonadjacent(uint8_t width, uint8_t order, const uint8_t *scalar, size_t bytes, const int8_t *digits, size_t places) {
+    sarvundole_tally t = check(width, order, scalar, bytes, digits, places);
     if (t.refusal || apart(width, digits, places)) return t;
     sarvundole_tally near = {10, (uint16_t)near_place(width, digits), 0, 0};
     return near;
@@ -378,8 +378,8 @@ static placed place(unsigned w, unsigned bits, size_t left) {
     return p;
 }
 
-sarvundole_reader baseline_reader_start(uint8_t width, const uint8_t *scalar, size_t bytes) {
-    sarvundole_reader r = {0, 0, 0, width, 0, 0};
+sarvundole_reader baseline_reader_start(uint8_t width, uint8_t order, const uint8_t *scalar, size_t bytes) {
+    sarvundole_reader r = {0, 0, 0, width, 0, 0, order != 0};
     (void)scalar;
     if (bad_width(width)) r.refusal = 2;
     else if (bytes > SARVUNDOLE_MOST_BYTES) r.refusal = 3;
@@ -395,7 +395,7 @@ sarvundole_stepped baseline_reader_next(const uint8_t *scalar, size_t bytes, sar
             r.reader.place = 0;
             return r;
         }
-        unsigned bits = window_at(scalar, bytes, reader.place - 1, w);
+        unsigned bits = window_at(reader.order, scalar, bytes, reader.place - 1, w);
         placed p = {0, 0};
         r.reader.floor = (uint16_t)(reader.place - 1);
         if (opens(w, bits)) {
@@ -412,7 +412,7 @@ sarvundole_stepped baseline_reader_next(const uint8_t *scalar, size_t bytes, sar
 }
 
 /* As far as the digit that is asked for. */
-sarvundole_reading baseline_read_at(uint8_t width, const uint8_t *scalar, size_t bytes, uint16_t calls) {
+sarvundole_reading baseline_read_at(uint8_t width, uint8_t order, const uint8_t *scalar, size_t bytes, uint16_t calls) {
     sarvundole_reading r = {0, 0, 0};
     if (bad_width(width)) r.refusal = 2;
     else if (bytes > SARVUNDOLE_MOST_BYTES) r.refusal = 3;
@@ -422,7 +422,7 @@ sarvundole_reading baseline_read_at(uint8_t width, const uint8_t *scalar, size_t
     size_t left = 8 * bytes + 1;
     r.given = 1;
     while (left > asked) {
-        unsigned bits = window_at(scalar, bytes, left - 1, w);
+        unsigned bits = window_at(order, scalar, bytes, left - 1, w);
         if (!opens(w, bits)) {
             left--;
             continue;

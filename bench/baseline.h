@@ -4,16 +4,16 @@
 
 #include "sarvundole.h"
 
-sarvundole_tally baseline_recode(uint8_t form, uint8_t width, const uint8_t *scalar, size_t bytes, int8_t *digits, size_t places,
+sarvundole_tally baseline_recode(uint8_t form, uint8_t width, uint8_t order, const uint8_t *scalar, size_t bytes, int8_t *digits, size_t places,
                                  uint64_t *marks, size_t words);
-sarvundole_tally baseline_check(uint8_t width, const uint8_t *scalar, size_t bytes, const int8_t *digits, size_t places);
-sarvundole_tally baseline_check_nonadjacent(uint8_t width, const uint8_t *scalar, size_t bytes, const int8_t *digits, size_t places);
+sarvundole_tally baseline_check(uint8_t width, uint8_t order, const uint8_t *scalar, size_t bytes, const int8_t *digits, size_t places);
+sarvundole_tally baseline_check_nonadjacent(uint8_t width, uint8_t order, const uint8_t *scalar, size_t bytes, const int8_t *digits, size_t places);
 sarvundole_taped baseline_tape(uint8_t width, const int8_t *digits, size_t places, uint16_t *words, size_t room);
 sarvundole_ran baseline_run(uint8_t width, const uint16_t *tape, size_t words, uint32_t modulus, uint32_t base, uint32_t *multiples,
                             size_t room);
-sarvundole_reader baseline_reader_start(uint8_t width, const uint8_t *scalar, size_t bytes);
+sarvundole_reader baseline_reader_start(uint8_t width, uint8_t order, const uint8_t *scalar, size_t bytes);
 sarvundole_stepped baseline_reader_next(const uint8_t *scalar, size_t bytes, sarvundole_reader reader);
-sarvundole_reading baseline_read_at(uint8_t width, const uint8_t *scalar, size_t bytes, uint16_t calls);
+sarvundole_reading baseline_read_at(uint8_t width, uint8_t order, const uint8_t *scalar, size_t bytes, uint16_t calls);
 sarvundole_searched baseline_search(uint32_t number, uint8_t width);
 
 #endif

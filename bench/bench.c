@@ -16,7 +16,7 @@ enum { INPUTS = 512, COUNTED = 128, TURNS = 101, AGREED = 20000, ROOM_PLACES = 6
 
 /* One call's input and the memory that it is lent. */
 typedef struct {
-    uint8_t form, width;
+    uint8_t form, width, order;
     uint8_t scalar[80];
     size_t bytes, places, words, room, marks_room, multiples_room;
     uint32_t modulus, base;
@@ -42,16 +42,16 @@ static void tally(output *out, sarvundole_tally t) {
 }
 
 static void recode(const input *in, output *out, int library) {
-    tally(out, (library ? sarvundole_recode : baseline_recode)(in->form, in->width, in->scalar, in->bytes, out->digits, in->places, out->marks,
+    tally(out, (library ? sarvundole_recode : baseline_recode)(in->form, in->width, in->order, in->scalar, in->bytes, out->digits, in->places, out->marks,
                                                                in->marks_room));
 }
 
 static void check(const input *in, output *out, int library) {
-    tally(out, (library ? sarvundole_check : baseline_check)(in->width, in->scalar, in->bytes, in->digits, in->places));
+    tally(out, (library ? sarvundole_check : baseline_check)(in->width, in->order, in->scalar, in->bytes, in->digits, in->places));
 }
 
 static void check_nonadjacent(const input *in, output *out, int library) {
-    tally(out, (library ? sarvundole_check_nonadjacent : baseline_check_nonadjacent)(in->width, in->scalar, in->bytes, in->digits, in->places));
+    tally(out, (library ? sarvundole_check_nonadjacent : baseline_check_nonadjacent)(in->width, in->order, in->scalar, in->bytes, in->digits, in->places));
 }
 
 static void tape(const input *in, output *out, int library) {
@@ -67,7 +67,7 @@ static void run(const input *in, output *out, int library) {
 }
 
 static void read_at(const input *in, output *out, int library) {
-    sarvundole_reading r = (library ? sarvundole_read_at : baseline_read_at)(in->width, in->scalar, in->bytes, in->calls);
+    sarvundole_reading r = (library ? sarvundole_read_at : baseline_read_at)(in->width, in->order, in->scalar, in->bytes, in->calls);
     out->fields[0] = r.refusal, out->fields[1] = r.given, out->fields[2] = (uint32_t)r.digit;
 }
 
@@ -80,12 +80,12 @@ static sarvundole_reader next(const input *in, output *out, int library, sarvund
 
 static void reader_is(output *out, sarvundole_reader r) {
     out->fields[1] = r.place, out->fields[2] = r.spot, out->fields[3] = r.floor, out->fields[4] = r.width, out->fields[5] = (uint32_t)r.pending;
-    out->fields[6] = r.refusal;
+    out->fields[6] = r.refusal, out->fields[7] = r.order;
 }
 
 /* A whole sequence: the start, and as many calls as are asked for and one more. */
 static void reader_next(const input *in, output *out, int library) {
-    sarvundole_reader reader = (library ? sarvundole_reader_start : baseline_reader_start)(in->width, in->scalar, in->bytes);
+    sarvundole_reader reader = (library ? sarvundole_reader_start : baseline_reader_start)(in->width, in->order, in->scalar, in->bytes);
     for (size_t i = 0; i <= in->calls; i++) reader = next(in, out, library, reader, i);
     reader_is(out, reader);
 }
@@ -109,24 +109,24 @@ static uint32_t chance(uint32_t below) {
 static uint32_t any32(void) { return chance(65536) << 16 | chance(65536); }
 
 /* An input that the calls accept: a random scalar, its string in a form, and that string's tape. */
-static void accepted(input *in, uint8_t form, uint8_t width, size_t bytes) {
+static void accepted(input *in, uint8_t form, uint8_t width, uint8_t order, size_t bytes) {
     uint64_t marks[SARVUNDOLE_MARK_WORDS];
     memset(in, 0, sizeof *in);
-    in->form = form, in->width = width, in->bytes = bytes;
+    in->form = form, in->width = width, in->order = order, in->bytes = bytes;
     for (size_t i = 0; i < bytes; i++) in->scalar[i] = (uint8_t)chance(256);
     in->places = 8 * bytes + 1, in->room = ROOM_WORDS, in->marks_room = SARVUNDOLE_MARK_WORDS, in->multiples_room = ROOM_MULTIPLES;
     in->modulus = any32() | 1, in->base = any32(), in->calls = (uint16_t)(8 * bytes);
-    baseline_recode(form, width, in->scalar, bytes, in->digits, in->places, marks, SARVUNDOLE_MARK_WORDS);
+    baseline_recode(form, width, order, in->scalar, bytes, in->digits, in->places, marks, SARVUNDOLE_MARK_WORDS);
     in->words = baseline_tape(width, in->digits, in->places, in->tape, ROOM_WORDS).words;
 }
 
 /* The same with a fault here and there, so that each refusal comes up. */
 static void any(input *in) {
     uint8_t form = (uint8_t)(1 + chance(5));
-    accepted(in, form, (uint8_t)(form == 1 ? 2 : 2 + chance(7)), chance(SARVUNDOLE_MOST_BYTES + 1));
+    accepted(in, form, (uint8_t)(form == 1 ? 2 : 2 + chance(7)), (uint8_t)(chance(2) ? 0 : chance(256)), chance(SARVUNDOLE_MOST_BYTES + 1));
     in->calls = (uint16_t)chance(600);
     if (!chance(4)) in->base = chance(140);
-    in->reader = (sarvundole_reader){(uint16_t)chance(600), (uint16_t)chance(600), (uint16_t)chance(600), (uint8_t)chance(11), (int8_t)chance(256), 0};
+    in->reader = (sarvundole_reader){(uint16_t)chance(600), (uint16_t)chance(600), (uint16_t)chance(600), (uint8_t)chance(11), (int8_t)chance(256), 0, (uint8_t)chance(3)};
     if (!chance(8)) in->reader.place = (uint16_t)chance(65536), in->reader.floor = (uint16_t)chance(65536), in->reader.refusal = (uint8_t)chance(256);
     switch (chance(16)) {
     case 0: in->form = (uint8_t)chance(256); break;
@@ -192,19 +192,19 @@ static double batch(job *call, const input *ins, output *out, int library, int t
 }
 
 /* The inputs of a case: the same ones each time. The search takes every number in turn, and no scalar. */
-static void prepare(input *ins, int count, job *call, uint8_t form, uint8_t width, size_t bytes) {
+static void prepare(input *ins, int count, job *call, uint8_t form, uint8_t width, uint8_t order, size_t bytes) {
     state = 1;
     for (int i = 0; i < count; i++) {
-        accepted(&ins[i], form, width, bytes);
+        accepted(&ins[i], form, width, order, bytes);
         if (call == search) ins[i].base = (uint32_t)(i % 128);
     }
 }
 
-static void time_one(const char *name, job *call, uint8_t form, uint8_t width, size_t bytes) {
+static void time_one(const char *name, job *call, uint8_t form, uint8_t width, uint8_t order, size_t bytes) {
     static input ins[INPUTS];
     static output out;
     double ours[TURNS], theirs[TURNS], ratios[TURNS];
-    prepare(ins, INPUTS, call, form, width, bytes);
+    prepare(ins, INPUTS, call, form, width, order, bytes);
     int times = 1;
     while (times < 1024 && batch(call, ins, &out, 0, times) * times * INPUTS < 1e5) times *= 2;
     for (int t = 0; t < TURNS; t++)
@@ -221,10 +221,10 @@ __attribute__((noinline)) void counted(job *call, const input *ins, output *out,
     for (int i = 0; i < COUNTED; i++) call(&ins[i], out, library);
 }
 
-static void count_one(const char *name, job *call, uint8_t form, uint8_t width, size_t bytes) {
+static void count_one(const char *name, job *call, uint8_t form, uint8_t width, uint8_t order, size_t bytes) {
     static input ins[COUNTED];
     static output out;
-    prepare(ins, COUNTED, call, form, width, bytes);
+    prepare(ins, COUNTED, call, form, width, order, bytes);
     for (int library = 0; library < 2; library++) {
         counted(call, ins, &out, library);
         printf("%s\t%d\t%zu\t%s\n", name, width, bytes, library ? "library" : "baseline");
@@ -235,23 +235,29 @@ static void count_one(const char *name, job *call, uint8_t form, uint8_t width, 
 typedef struct {
     const char *name;
     job *call;
-    uint8_t form, widths[6]; /* the widths end with 0; of a long row 4 and 8 alone are timed */
+    uint8_t form, order, widths[6]; /* the widths end with 0; of a long row 4 and 8 alone are timed */
 } row;
 
 int main(int words, char **given) {
     static const row calls[] = {
-        {"recode MOF", recode, 1, {2}},
-        {"recode wNAF", recode, 2, {2, 4, 5, 6, 8}},
-        {"recode wMOF", recode, 3, {2, 4, 5, 6, 8}},
-        {"recode closest", recode, 4, {2, 4, 5, 6, 8}},
-        {"recode closest, smaller", recode, 5, {2, 4, 5, 6, 8}},
-        {"check", check, 2, {2, 4, 5, 6, 8}},
-        {"check_nonadjacent", check_nonadjacent, 2, {2, 4, 5, 6, 8}},
-        {"tape", tape, 2, {2, 4, 5, 6, 8}},
-        {"run", run, 2, {2, 4, 5, 6, 8}},
-        {"read_at", read_at, 3, {2, 4, 5, 6, 8}},
-        {"reader_next", reader_next, 3, {2, 4, 5, 6, 8}},
-        {"search", search, 2, {2, 3}},
+        {"recode MOF", recode, 1, 0, {2}},
+        {"recode wNAF", recode, 2, 0, {2, 4, 5, 6, 8}},
+        {"recode wMOF", recode, 3, 0, {2, 4, 5, 6, 8}},
+        {"recode closest", recode, 4, 0, {2, 4, 5, 6, 8}},
+        {"recode closest, smaller", recode, 5, 0, {2, 4, 5, 6, 8}},
+        {"check", check, 2, 0, {2, 4, 5, 6, 8}},
+        {"check_nonadjacent", check_nonadjacent, 2, 0, {2, 4, 5, 6, 8}},
+        {"tape", tape, 2, 0, {2, 4, 5, 6, 8}},
+        {"run", run, 2, 0, {2, 4, 5, 6, 8}},
+        {"read_at", read_at, 3, 0, {2, 4, 5, 6, 8}},
+        {"reader_next", reader_next, 3, 0, {2, 4, 5, 6, 8}},
+        {"search", search, 2, 0, {2, 3}},
+        {"recode MOF, lowest first", recode, 1, 1, {2}},
+        {"recode wNAF, lowest first", recode, 2, 1, {4, 8}},
+        {"recode wMOF, lowest first", recode, 3, 1, {4, 8}},
+        {"check, lowest first", check, 2, 1, {4, 8}},
+        {"read_at, lowest first", read_at, 3, 1, {4, 8}},
+        {"reader_next, lowest first", reader_next, 3, 1, {4, 8}},
     };
     static const size_t lengths[] = {8, 16, 32, 48, 66};
     const size_t count = sizeof calls / sizeof *calls;
@@ -268,8 +274,8 @@ int main(int words, char **given) {
                 const row *r = &calls[c];
                 if (r->call == search && l > 0) continue;
                 const size_t bytes = r->call == search ? 0 : lengths[l];
-                if (counting && (!bytes || bytes == 32 || bytes == 66)) count_one(r->name, r->call, r->form, *width, bytes);
-                if (!counting && (!r->widths[2] || *width == 4 || *width == 8)) time_one(r->name, r->call, r->form, *width, bytes);
+                if (counting && (!bytes || bytes == 32 || bytes == 66)) count_one(r->name, r->call, r->form, *width, r->order, bytes);
+                if (!counting && (!r->widths[2] || *width == 4 || *width == 8)) time_one(r->name, r->call, r->form, *width, r->order, bytes);
             }
     return 0;
 }

@@ -62,13 +62,13 @@ int main(int count, char **given) {
     const uint8_t width = width_of(count == 3 ? given[1] : "2");
     const size_t bytes = bytes_of(count == 3 ? given[2] : "0D"), places = 8 * bytes + 1;
 
-    sarvundole_tally recoded = sarvundole_recode(SARVUNDOLE_WNAF, width, scalar, bytes, digits, places, marks, SARVUNDOLE_MARK_WORDS);
+    sarvundole_tally recoded = sarvundole_recode(SARVUNDOLE_WNAF, width, SARVUNDOLE_HIGHEST_FIRST, scalar, bytes, digits, places, marks, SARVUNDOLE_MARK_WORDS);
     ended("recode", recoded.refusal, recoded.place);
     printf("digits, highest place first:");
     for (size_t j = recoded.top; j-- > 0;) printf(" %d", digits[j]);
     printf("\nweight %u, top %u\n", recoded.weight, recoded.top);
 
-    sarvundole_tally checked = sarvundole_check_nonadjacent(width, scalar, bytes, digits, places);
+    sarvundole_tally checked = sarvundole_check_nonadjacent(width, SARVUNDOLE_HIGHEST_FIRST, scalar, bytes, digits, places);
     ended("check_nonadjacent", checked.refusal, checked.place);
     printf("checked: worth the number, and nonzero digits at least %u places apart\n", width);
 

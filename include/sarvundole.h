@@ -1,7 +1,8 @@
 /* Sarvundole: recodes a public check number to signed digits, checks digits made elsewhere, makes a step tape of a string and runs
  * a tape over residues. C99 and C++.
  *
- * Scalars come as big-endian bytes, 0 to 66 of them; L bytes have n = 8L bits. A width w is 2 to 8. The digits of width w are 0 and
+ * Scalars come as bytes, 0 to 66 of them, in either order: each call on a scalar is told which byte comes first, 0 for the highest, anything
+ * else for the lowest. L bytes have n = 8L bits. A width w is 2 to 8. The digits of width w are 0 and
  * the odd numbers of absolute value below 2^(w-1). A string has place 0 first in its buffer, place j is worth 2^j, and each place is
  * a signed byte. A recoded string has exactly n + 1 places, at most 529. A tape has at most 1,057 words.
  *
@@ -26,11 +27,17 @@
 #include <stdint.h>
 
 /* This header's version. */
-#define SARVUNDOLE_VERSION "1.0.0"
+#define SARVUNDOLE_VERSION "2.0.0"
 
 #ifdef __cplusplus
 extern "C" {
 #endif
+
+/* The orders of a scalar's bytes. */
+enum sarvundole_order {
+    SARVUNDOLE_HIGHEST_FIRST = 0,
+    SARVUNDOLE_LOWEST_FIRST = 1 /* and every other byte */
+};
 
 /* The forms. */
 enum sarvundole_form {
@@ -135,7 +142,7 @@ typedef struct sarvundole_reading {
 
 /* A reader between two calls. The caller keeps it as it was given, beside the scalar that it was started from; `refusal` alone is to be
  * read: 0, or the number of the rule that the input breaks. `place` counts the places to come, and those from `floor` up belong to one
- * window, whose digit `pending` stands at `spot`. */
+ * window, whose digit `pending` stands at `spot`; `order` is that of the scalar's bytes, 0 or 1. */
 typedef struct sarvundole_reader {
     uint16_t place;
     uint16_t spot;
@@ -143,6 +150,7 @@ typedef struct sarvundole_reader {
     uint8_t width;
     int8_t pending;
     uint8_t refusal;
+    uint8_t order;
 } sarvundole_reader;
 
 /* What reader_next answers: the reader after the call, and `given` and `digit` as read_at's. */
@@ -160,15 +168,16 @@ typedef struct sarvundole_searched {
 
 /* Recodes a scalar. Writes its n + 1 digits, and marks nonzero places in nine 64-bit words: bit j mod 64 of word j / 64 is set exactly
  * when place j is nonzero. Lent: the scalar; for writing, at least n + 1 places and 9 words. Refusals: 1, 2, 3, 4, 5. */
-sarvundole_tally sarvundole_recode(uint8_t form, uint8_t width, const uint8_t *scalar, size_t bytes, int8_t *digits, size_t places,
-                                   uint64_t *marks, size_t words);
+sarvundole_tally sarvundole_recode(uint8_t form, uint8_t width, uint8_t order, const uint8_t *scalar, size_t bytes, int8_t *digits,
+                                   size_t places, uint64_t *marks, size_t words);
 
 /* Says yes exactly when the digits are of the width and the string, of 0 to 529 places, is worth the scalar. Nothing is written.
  * Lent: the scalar and the string. Refusals: 2, 3, 7, 8, 9. */
-sarvundole_tally sarvundole_check(uint8_t width, const uint8_t *scalar, size_t bytes, const int8_t *digits, size_t places);
+sarvundole_tally sarvundole_check(uint8_t width, uint8_t order, const uint8_t *scalar, size_t bytes, const int8_t *digits, size_t places);
 
 /* The same, and no two nonzero digits stand fewer than w places apart. Refusals: 2, 3, 7, 8, 9, 10. */
-sarvundole_tally sarvundole_check_nonadjacent(uint8_t width, const uint8_t *scalar, size_t bytes, const int8_t *digits, size_t places);
+sarvundole_tally sarvundole_check_nonadjacent(uint8_t width, uint8_t order, const uint8_t *scalar, size_t bytes, const int8_t *digits,
+                                              size_t places);
 
 /* Turns a string into a step tape. A word is 16 bits: the code in the top four, the entry e in the low twelve, e standing for the odd
  * multiple 2e + 1. Codes: 0 double (e is 0), 1 load, 2 load negated, 3 add, 4 subtract. The highest nonzero digit gives a load; each
@@ -184,7 +193,7 @@ sarvundole_ran sarvundole_run(uint8_t width, const uint16_t *tape, size_t words,
 
 /* Starts a reader, which gives wMOF one digit a call, places n down to 0, then says done at every later call. Started from refused input,
  * it holds the number and is done at once. Lent: the scalar. Refusals: 2, 3. */
-sarvundole_reader sarvundole_reader_start(uint8_t width, const uint8_t *scalar, size_t bytes);
+sarvundole_reader sarvundole_reader_start(uint8_t width, uint8_t order, const uint8_t *scalar, size_t bytes);
 
 /* The reader's next call. The scalar is lent again. Lent the one that the reader was started from, with what the start or the last call
  * gave, it gives the next digit of that scalar. Any other reader and scalar are taken too. It then gives `pending` at `spot` and 0 at each other place while `place` is over `floor`;
@@ -194,7 +203,7 @@ sarvundole_stepped sarvundole_reader_next(const uint8_t *scalar, size_t bytes, s
 
 /* What a reader's call after `calls` others gives, for a caller that keeps no reader. It reads from the top each time: a whole sequence
  * costs less by reader_next. Lent: the scalar. Refusals: 2, 3. */
-sarvundole_reading sarvundole_read_at(uint8_t width, const uint8_t *scalar, size_t bytes, uint16_t calls);
+sarvundole_reading sarvundole_read_at(uint8_t width, uint8_t order, const uint8_t *scalar, size_t bytes, uint16_t calls);
 
 /* Answers the least weight of any string of nine places that is worth a number up to 127, at width 2 or 3. Refusals: 2, 3. */
 sarvundole_searched sarvundole_search(uint32_t number, uint8_t width);

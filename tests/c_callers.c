@@ -71,6 +71,7 @@ static void given_back(memory *m) {
 /* ---- frames and answers */
 static const uint8_t *frame;
 static size_t left;
+static uint8_t order; /* of the scalar's bytes: 0, or any other byte */
 
 static uint32_t take(size_t size) {
     uint32_t n = 0;
@@ -104,7 +105,7 @@ static void recode(int at_end) {
     size_t places = take(2), count = take(1), bytes = left;
     int8_t *d = lend_to_write(&digits, places, 1, 0x5A, at_end);
     uint64_t *m = lend_to_write(&marks, count, 8, 0xA5A5A5A5A5A5A5A5u, at_end);
-    put_tally(sarvundole_recode(form, width, lend(&scalars, bytes, at_end, frame), bytes, d, places, m, count));
+    put_tally(sarvundole_recode(form, width, order, lend(&scalars, bytes, at_end, frame), bytes, d, places, m, count));
     given_back(&scalars);
     put_lent(&digits, 1);
     put_lent(&marks, 8);
@@ -115,7 +116,7 @@ static void check(int at_end, int nonadjacent) {
     size_t bytes = take(1), places = left - bytes;
     const uint8_t *s = lend(&scalars, bytes, at_end, frame);
     const int8_t *d = lend(&strings, places, at_end, frame + bytes);
-    put_tally((nonadjacent ? sarvundole_check_nonadjacent : sarvundole_check)(width, s, bytes, d, places));
+    put_tally((nonadjacent ? sarvundole_check_nonadjacent : sarvundole_check)(width, order, s, bytes, d, places));
     given_back(&scalars);
     given_back(&strings);
 }
@@ -151,11 +152,12 @@ static void read_all(int at_end) {
     uint8_t width = (uint8_t)take(1);
     size_t calls = take(2), bytes = left;
     const uint8_t *s = lend(&scalars, bytes, at_end, frame);
-    sarvundole_reader reader = sarvundole_reader_start(width, s, bytes);
+    sarvundole_reader reader = sarvundole_reader_start(width, order, s, bytes);
+    if (reader.order != (order != 0)) refuse("a reader is started in another order");
     put(reader.refusal, 1);
     for (size_t k = 0; k < calls; k++) {
         sarvundole_stepped next = sarvundole_reader_next(s, bytes, reader);
-        sarvundole_reading r = sarvundole_read_at(width, s, bytes, (uint16_t)k);
+        sarvundole_reading r = sarvundole_read_at(width, order, s, bytes, (uint16_t)k);
         if (r.refusal != reader.refusal || r.given != next.given || r.digit != next.digit) refuse("a reader that is kept gives another digit");
         put(next.given, 1), put((uint8_t)next.digit, 1);
         reader = next.reader;
@@ -166,8 +168,9 @@ static void read_all(int at_end) {
 /* A reader that no start gave: inside a window the digit stands at its spot; where no window can open the reader is done. What is above the
  * scalar's bits is 0. What a call does not move is kept. */
 static void made_up(uint16_t place, uint16_t spot, uint16_t floor, uint8_t width, int at_end) {
+    const uint8_t told = (uint8_t)(place + width);
     const uint8_t scalar[] = {0xFF, 0x0D};
-    const sarvundole_reader r = {place, spot, floor, width, -77, 99};
+    const sarvundole_reader r = {place, spot, floor, width, -77, 99, told};
     const sarvundole_stepped next = sarvundole_reader_next(lend(&scalars, sizeof scalar, at_end, scalar), sizeof scalar, r);
     const int inside = floor < place, opens = 0 < place && place <= SARVUNDOLE_MOST_PLACES && 2 <= width && width <= 8;
     const int kept = inside || !opens, known = kept || place > 8 * sizeof scalar + 1;
@@ -176,7 +179,7 @@ static void made_up(uint16_t place, uint16_t spot, uint16_t floor, uint8_t width
     if (known && next.digit != (inside && place - 1 == spot ? -77 : 0)) refuse("a made-up reader gives another digit");
     if (next.reader.place != (next.given ? place - 1 : 0)) refuse("a made-up reader is at another place");
     if (kept && (next.reader.spot != spot || next.reader.floor != floor || next.reader.pending != -77)) refuse("a made-up window is not kept");
-    if (next.reader.width != width || next.reader.refusal != 99) refuse("a made-up reader is not kept");
+    if (next.reader.width != width || next.reader.refusal != 99 || next.reader.order != told) refuse("a made-up reader is not kept");
 }
 
 static void made_up_all(void) {
@@ -210,7 +213,9 @@ static void call(const uint8_t *data, size_t bytes, int at_end) {
     frame = data;
     left = bytes;
     answered = 0;
-    switch (take(1)) {
+    const uint32_t asked = take(1);
+    order = asked < 0x80 ? 0 : at_end ? 0xFF : 1;
+    switch (asked & 0x7F) {
     case 1: recode(at_end); break;
     case 2: check(at_end, 0); break;
     case 3: check(at_end, 1); break;

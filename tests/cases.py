@@ -58,6 +58,11 @@ def search(width, n):
     return hexadecimal(bytes([7, width]) + n.to_bytes(4, "big"))
 
 
+def lowest_first(line):
+    """The same call on the same bytes, told that they come lowest first."""
+    return hexadecimal([second.LOWEST + int(line[:2], 16)]) + line[2:]
+
+
 # ---- strings that a document prints, highest place first
 KNOWN = [  # document 01, P1 to P10: scalar, width, forms, nonzero digits by place
     (b"\x0d", 2, [MOF], {4: 1, 2: -1, 1: 1, 0: -1}),
@@ -388,6 +393,26 @@ def trial_recode_edges():
         yield recode(WNAF, 3, places, 9, b"")
 
 
+def lowest_first_edges():
+    """Both orders of one number, of bytes that are the same from both ends, and of zeros at either end; and calls that have no scalar."""
+    for scalar, width, form, digits in printed_strings():
+        yield lowest_first(recode_fitting(form, width, scalar[::-1]))
+        yield lowest_first(recode_fitting(form, width, scalar))
+        yield lowest_first(check(width, scalar[::-1], digits))
+        yield lowest_first(nonadjacent(width, scalar[::-1], digits))
+        yield lowest_first(check(width, scalar, digits))
+    for form, width in FORMS_AND_WIDTHS:
+        for scalar in (b"\x01\x00", b"\x00\x01", b"\x80\x00\x01", bytes(3) + b"\x01\x5d", b"\x5d\x01" + bytes(3), bytes(range(1, 67)), b"\xff" * 67):
+            yield lowest_first(recode(form, width, min(8 * len(scalar) + 1, 600), 9, scalar))
+        for length in range(1, 18):
+            yield lowest_first(recode_fitting(form, width, bytes(range(0xE1, 0xE1 + length))))
+    for width in WIDTHS:
+        for scalar in (b"", b"\x0d\x00", b"\x00\x0d", bytes(range(9)), b"\xff" * 67):
+            yield lowest_first(reader(width, 8 * min(len(scalar), 9) + 3, scalar))
+    for line in (tape(2, 1, [1]), run(2, 1, 7, 3, [0x1000]), search(2, 5)):
+        yield lowest_first(line)
+
+
 def on_places(places, digits):
     return digits + [0] * (places - len(digits))
 
@@ -543,7 +568,7 @@ def trial_malformed():
         yield from (line[: 2 * k] for k in range(len(line) // 2))
         yield line + b"00"
         yield line + b"1000"
-    for call in (0, 8, 9, 16, 127, 128, 255):
+    for call in (0, 8, 9, 16, 32, 33, 63, 64, 65, 97, 127, 128, 136, 160, 161, 192, 193, 255):
         yield b"%02X" % call + good[0][2:]
         yield b"%02X" % call
     yield from at_the_limits()
@@ -658,9 +683,21 @@ def any_search(rng):
     return search(rng.choice([1, 2, 2, 3, 3, 4]), number)
 
 
+def any_lowest_first(rng, line):
+    """The call on bytes that come lowest first: the same bytes, or for a check the same number, so that strings stay worth it."""
+    call = int(line[:2], 16)
+    if call in (2, 3) and rng.random() < 0.8:
+        end = 6 + 2 * int(line[4:6], 16)
+        scalar = bytes.fromhex(line[6:end].decode("ascii"))
+        line = line[:6] + hexadecimal(scalar[::-1]) + line[end:]
+    return lowest_first(line) if call in (1, 2, 3, 6) or rng.random() < 0.1 else line
+
+
 def some_trial_line(rng):
     """A line for the trial program, mostly good."""
     line = rng.choice([any_recode, any_check, any_check, any_tape, any_run, any_reader, any_search])(rng)
+    if rng.randrange(3) == 0:
+        line = any_lowest_first(rng, line)
     kind = rng.randrange(40)
     if kind == 0:
         return any_spoiled(rng, line)
@@ -678,6 +715,7 @@ def trial_input():
     rng = random.Random(SEED + 1)
     lines = [
         *trial_recode_edges(),
+        *lowest_first_edges(),
         *check_edges(),
         *check_every_digit(),
         *check_far_off(),

@@ -34,6 +34,8 @@ A digit is one byte in two's complement, a mark word eight bytes, a tape word tw
 every lent digit is 5A, mark word A5A5A5A5A5A5A5A5, tape word EEEE, multiple DEADBEEF. What has no stated length runs
 to the end of the line. A line ends at a line feed; a last line without one counts if not empty.
 
+With 80 added to the call, 81, 82, 83 and 86, the scalar's bytes come lowest first; else they come highest first.
+
 FF answers a line that is no such frame: empty, of odd length, with another character, of another call, without a
 part of a fixed field or of the stated scalar, with half a tape word at its end, or with anything after a search. FF
 also answers a line that asks for more than the program has: over 600 digits or places, 12 mark words, 1,100 tape
@@ -57,9 +59,12 @@ FORMS = MOF, WNAF, WMOF, CLOSEST, SMALLER = 1, 2, 3, 4, 5
 
 
 # ---- scalars and digits
-def number(scalar):
-    """What big-endian bytes mean."""
-    return int.from_bytes(scalar, "big")
+HIGHEST_FIRST, LOWEST_FIRST = "big", "little"  # the orders of a scalar's bytes, as Python names them
+
+
+def number(scalar, order=HIGHEST_FIRST):
+    """What bytes mean in an order."""
+    return int.from_bytes(scalar, order)
 
 
 def bit(n, j):
@@ -166,8 +171,8 @@ def closest(n, bits, width, favoured=-1):
     return digits
 
 
-def form_digits(form, width, scalar):
-    n, bits = number(scalar), 8 * len(scalar)
+def form_digits(form, width, scalar, order=HIGHEST_FIRST):
+    n, bits = number(scalar, order), 8 * len(scalar)
     if form == MOF:
         return mof(n, bits)
     if form == SMALLER:
@@ -188,7 +193,7 @@ def marks_of(digits):
     ]
 
 
-def recode(form, width, scalar, digits, marks):
+def recode(form, width, scalar, digits, marks, order=HIGHEST_FIRST):
     """refusal, place, weight, top; digits, marks"""
     places = 8 * len(scalar) + 1
     if form not in FORMS:
@@ -202,7 +207,7 @@ def recode(form, width, scalar, digits, marks):
     elif len(marks) < MARK_WORDS:
         refusal = 5
     else:
-        made = form_digits(form, width, scalar)
+        made = form_digits(form, width, scalar, order)
         return (0, 0, weight(made), top(made)), made + digits[places:], marks_of(made) + marks[MARK_WORDS:]
     return (refusal, 0, 0, 0), digits, marks
 
@@ -218,7 +223,7 @@ def crowded(width, digits):
     return [low for low in nonzero if any(low < high < low + width for high in nonzero)]
 
 
-def check(width, scalar, digits, nonadjacent=False):
+def check(width, scalar, digits, nonadjacent=False, order=HIGHEST_FIRST):
     """refusal, place, weight, top"""
     if bad_width(width):
         return 2, 0, 0, 0
@@ -228,7 +233,7 @@ def check(width, scalar, digits, nonadjacent=False):
         return 7, 0, 0, 0
     if bad_digits(width, digits):
         return 8, min(bad_digits(width, digits)), 0, 0
-    if worth(digits) != number(scalar):
+    if worth(digits) != number(scalar, order):
         return 9, 0, 0, 0
     if nonadjacent and crowded(width, digits):
         return 10, min(crowded(width, digits)), 0, 0
@@ -345,13 +350,13 @@ def run(width, words, modulus, base, multiples):
     return (refusal, place, 0, 0, 0, 0, 0), multiples
 
 
-def reader(width, scalar, calls):
+def reader(width, scalar, calls, order=HIGHEST_FIRST):
     """refusal; what each call gives, a digit or None for done"""
     if bad_width(width):
         return 2, [None] * calls
     if len(scalar) > MOST_BYTES:
         return 3, [None] * calls
-    sequence = list(reversed(form_digits(WMOF, width, scalar)))
+    sequence = list(reversed(form_digits(WMOF, width, scalar, order)))
     return 0, [sequence[k] if k < len(sequence) else None for k in range(calls)]
 
 
@@ -435,10 +440,10 @@ class NoFrame(Exception):
 
 
 class Frame:
-    """The bytes of a line, taken field by field."""
+    """The bytes of a line after its call, taken field by field, and the order of its scalar's bytes."""
 
-    def __init__(self, data):
-        self.rest = data
+    def __init__(self, data, order):
+        self.rest, self.order = data, order
 
     def take(self, size):
         if len(self.rest) < size:
@@ -464,14 +469,14 @@ def trial_recode(frame):
     form, width = frame.number(1), frame.number(1)
     digits = [LENT_DIGIT] * frame.number(2, TRIAL_PLACES)
     marks = [LENT_MARK] * frame.number(1, TRIAL_MARKS)
-    (refusal, *fields), digits, marks = recode(form, width, frame.remaining(TRIAL_BYTES), digits, marks)
+    (refusal, *fields), digits, marks = recode(form, width, frame.remaining(TRIAL_BYTES), digits, marks, frame.order)
     return bytes([refusal]) + big_endian(fields, 2) + big_endian(digits, 1) + big_endian(marks, 8)
 
 
 def trial_check(frame, nonadjacent=False):
     width = frame.number(1)
     scalar = frame.take(frame.number(1, TRIAL_BYTES))
-    refusal, *fields = check(width, scalar, signed(frame.remaining(TRIAL_PLACES)), nonadjacent)
+    refusal, *fields = check(width, scalar, signed(frame.remaining(TRIAL_PLACES)), nonadjacent, frame.order)
     return bytes([refusal]) + big_endian(fields, 2)
 
 
@@ -499,7 +504,7 @@ def trial_run(frame):
 
 def trial_reader(frame):
     width, calls = frame.number(1), frame.number(2, TRIAL_CALLS)
-    refusal, given = reader(width, frame.remaining(TRIAL_BYTES), calls)
+    refusal, given = reader(width, frame.remaining(TRIAL_BYTES), calls, frame.order)
     return bytes([refusal]) + b"".join(bytes(2) if d is None else b"\1" + big_endian([d], 1) for d in given)
 
 
@@ -510,15 +515,20 @@ def trial_search(frame):
 
 
 TRIALS = [trial_recode, trial_check, trial_nonadjacent, trial_tape, trial_run, trial_reader, trial_search]
+ON_A_SCALAR = [trial_recode, trial_check, trial_nonadjacent, trial_reader]
+LOWEST = 0x80  # added to the call: the scalar's bytes come lowest first
 
 
 def trial_answer(line):
     """One line of the trial program, its line feed left out."""
     data = bytes_of(line)
-    if data is None or not 1 <= data[0] <= len(TRIALS):
+    if data is None or not 1 <= data[0] % LOWEST <= len(TRIALS):
+        return b"FF"
+    call = TRIALS[data[0] % LOWEST - 1]
+    if data[0] >= LOWEST and call not in ON_A_SCALAR:
         return b"FF"
     try:
-        return written(TRIALS[data[0] - 1](Frame(data[1:])))
+        return written(call(Frame(data[1:], LOWEST_FIRST if data[0] >= LOWEST else HIGHEST_FIRST)))
     except NoFrame:
         return b"FF"
 
@@ -577,6 +587,20 @@ def check_tapes():
             assert reader(width, scalar, 17)[1] == form_digits(WMOF, width, scalar)[::-1]
 
 
+def check_orders():
+    """Bytes lowest first are the reversed bytes highest first, in every call on a scalar."""
+    for n in range(0, 65536, 251):
+        scalar = n.to_bytes(2, "big")
+        turned = scalar[::-1]
+        assert number(turned, LOWEST_FIRST) == n
+        for width in range(LEAST_WIDTH, MOST_WIDTH + 1):
+            for form in (WNAF, WMOF, CLOSEST, SMALLER):
+                digits = form_digits(form, width, scalar)
+                assert form_digits(form, width, turned, LOWEST_FIRST) == digits
+                assert check(width, turned, digits, order=LOWEST_FIRST)[0] == 0
+            assert reader(width, turned, 17, LOWEST_FIRST) == reader(width, scalar, 17)
+
+
 def check_widths(size):
     """More width never costs additions: at the next width no scalar of so many bytes weighs more, in any form but MOF, whose width is 2."""
     for n in range(256**size):
@@ -590,6 +614,7 @@ def own_checks():
     check_forms()
     check_nearest()
     check_tapes()
+    check_orders()
     check_widths(1)
 
 

@@ -9,7 +9,7 @@ use lib.Dec.{T, T-not}
 use lib.IntN.{ℤ}
 use lib.ListN.{length, getD, take, drop, length-append, length-drop, List·getD-append}
 use lib.Seq.{sets, take-at, drop-append-le, drop-at}
-use Rattle.meaning.specs.Scalars.{number, bitCount, mostBytes}
+use Rattle.meaning.specs.Scalars.{Order, highestFirst, number, bitCount, mostBytes}
 use Rattle.meaning.specs.Digits.{mostPlaces, Tally}
 use Rattle.meaning.specs.Forms.{Form}
 use Rattle.meaning.specs.Refusals.{First}
@@ -42,7 +42,7 @@ module _ (line out₀ out : List ℕ) (r : ℕ) where
   answer-refused n h f w = record { refusal = n; first = f; accepted = λ e. absurd (h e); refused = λ _. wrote-front w }
 
   -- a string
-  answer-accepted : (ds : List ℤ) → First (lineRules line) 0 0 → Form (formOf line) (widthOf line) (number (scalarOf line)) (bitCount (scalarOf line)) ds
+  answer-accepted : (ds : List ℤ) → First (lineRules line) 0 0 → Form (formOf line) (widthOf line) (number highestFirst (scalarOf line)) (bitCount (scalarOf line)) ds
       → Wrote (written (acceptedBytes ds) ++ (lineFeed ∷ [])) out₀ r out → Answer line (take r out)
   answer-accepted ds f form w = record { refusal = 0; first = f; accepted = λ _. (ds, form, wrote-front w); refused = λ n. absurd (n refl) }
 
@@ -88,12 +88,12 @@ module _ (line bytes₀ : List ℕ) (least : 6 ≤ length line) (most : length l
 
   -- what recode leaves, given what was read
   pub worked : {digits₀ digits : List ℤ} {marks₀ marks : List ℕ} {a : Tally}
-      → Recode (getD bytes 0 0) (getD bytes 1 0) (take (length line / 2 - 3) (drop 3 bytes)) digits₀ marks₀ a digits marks
+      → Recode (getD bytes 0 0) (getD bytes 1 0) highestFirst (take (length line / 2 - 3) (drop 3 bytes)) digits₀ marks₀ a digits marks
       → Worked line bytes₀ digits₀ marks₀ bytes digits marks a
   worked R = record { bytes-are = front-is; recoded = rw (byte-at 0 (omega arith), byte-at 1 (omega arith), scalar-is) at R }
 
 -- ---- where no rule applies
-module _ {form w : ℕ} {s : List ℕ} {digits₀ digits : List ℤ} {marks₀ marks : List ℕ} {a : Tally} (R : Recode form w s digits₀ marks₀ a digits marks) (none : a .refusal ≡ 0) where
+module _ {form w : ℕ} {o : Order} {s : List ℕ} {digits₀ digits : List ℤ} {marks₀ marks : List ℕ} {a : Tally} (R : Recode form w o s digits₀ marks₀ a digits marks) (none : a .refusal ≡ 0) where
   -- the scalar is not too long, and there is room for its digits
   pub room : (length s ≤ mostBytes) × (bitCount s + 1 ≤ length digits₀)
   room = let (_, (_, (l, (d, _)))) = clear (recodeRules form w s (length digits₀) (length marks₀)) tt (a .refusal) (a .place) (R .first) none in (not-below l, not-below d)

@@ -1,5 +1,6 @@
 // Frames: a line of hexadecimal read as a frame, and the answer to any line written.
 use recoder::MARK_WORDS;
+use scalar::Order;
 use width::Width;
 ghost use mathlib.Core.Path.{_≡_};
 ghost use mathlib.Core.Bool.{not};
@@ -60,7 +61,14 @@ fn frame(
 {
     hexadecimal::read(line, bytes);
     let count = line.len() / 2;
-    let tally = recoder::recode(bytes[0], bytes[1], &bytes[HEAD..count], digits, marks);
+    let tally = recoder::recode(
+        bytes[0],
+        bytes[1],
+        Order::HighestFirst,
+        &bytes[HEAD..count],
+        digits,
+        marks,
+    );
     if tally.refusal != 0 {
         return answers::refused(tally.refusal, out);
     }

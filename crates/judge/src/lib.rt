@@ -5,10 +5,11 @@ ghost use mathlib.Core.Bool.{true};
 ghost use Prim.Native.Nat.{ℕ, _+_, _*_, _^_, _≤_, _<_, max};
 ghost use lib.IntN.{pos};
 ghost use lib.ListN.{length, getD};
-ghost use Rattle.meaning.specs.Scalars.{number, mostBytes};
+ghost use Rattle.meaning.specs.Scalars.{number, orderOf, mostBytes};
 ghost use Rattle.meaning.specs.Digits.{mostPlaces, worth};
 ghost use Rattle.meaning.specs.Checking.{Crowded, checkRules, nonadjacentRules, Check};
 ghost use Rattle.digits.specs.Tallies.{told};
+ghost use Rattle.scalar.specs.Orders.{ordered};
 ghost use Rattle.judge.specs.Tests.{Says};
 ghost use Rattle.signed.specs.Levels.{Raised};
 ghost use Rattle.judge.specs.Levels.{level, Stretch, Turned};
@@ -16,6 +17,7 @@ ghost use Rattle.judge.specs.Spaces.{Freed, Clear, Spacing};
 use digits::Found;
 use digits::Tally;
 use scalar::MOST_BYTES;
+use scalar::Order;
 use width::Known;
 use width::Width;
 
@@ -69,11 +71,11 @@ struct Turn {
     left: u32,
 }
 
-fn step(scalar: &[u8], digits: &[i8], q: usize, carry: u32) -> Turn
+fn step(order: u8, scalar: &[u8], digits: &[i8], q: usize, carry: u32) -> Turn
     requires { ⌜ (8 * q + 8 < 2 ^ 64) × (carry ≤ 512) ⌝ }
-    ensures { λ r. ⌜ Turned (number (now (scalar .entry))) (now (digits .entry)) q carry r ⌝ }
+    ensures { λ r. ⌜ Turned (number (orderOf order) (now (scalar .entry))) (now (digits .entry)) q carry r ⌝ }
 {
-    let sum = eight(digits, 8 * q) - scalar::byte(scalar, q) + carry;
+    let sum = eight(digits, 8 * q) - scalar::byte(order, scalar, q) + carry;
     Turn {
         carry: sum / 256,
         left: sum % 256,
@@ -88,15 +90,15 @@ fn larger(a: usize, b: usize) -> usize
 
 // Whether the string is worth the scalar. They are compared from the lowest places up, to the last place of either: nothing may be left
 // at any eight places, and nothing carried past the top. So no number on the way outgrows a word, and none is cut down to one.
-fn worth_is(scalar: &[u8], digits: &[i8]) -> bool
+fn worth_is(order: u8, scalar: &[u8], digits: &[i8]) -> bool
     requires { ⌜ (length (now scalar) ≤ mostBytes) × (length (now digits) ≤ mostPlaces) ⌝ }
-    ensures { λ r. ⌜ Says r (worth (now (digits .entry)) ≡ pos (number (now (scalar .entry)))) ⌝ }
+    ensures { λ r. ⌜ Says r (worth (now (digits .entry)) ≡ pos (number (orderOf order) (now (scalar .entry)))) ⌝ }
 {
     let end = larger((digits.len() + 7) / 8, scalar.len());
     let mut carry = LEVEL;
     let mut q = 0;
     while q < end {
-        let turn = step(scalar, digits, q, carry);
+        let turn = step(order, scalar, digits, q, carry);
         if turn.left != 0 {
             return false;
         }
@@ -207,8 +209,8 @@ fn refused(number: u8, place: u16) -> Tally
 }
 
 // The plain check.
-pub fn check(width: u8, scalar: &[u8], digits: &[i8]) -> Tally
-    ensures { λ r. ⌜ Check (checkRules width (now (scalar .entry)) (now (digits .entry))) (now (digits .entry)) (told r) ⌝ }
+pub fn check(width: u8, order: Order, scalar: &[u8], digits: &[i8]) -> Tally
+    ensures { λ r. ⌜ Check (checkRules width (ordered order) (now (scalar .entry)) (now (digits .entry))) (now (digits .entry)) (told r) ⌝ }
 {
     let Known::As(known) = Width::known(width) else {
         return refused(2, 0);
@@ -222,7 +224,7 @@ pub fn check(width: u8, scalar: &[u8], digits: &[i8]) -> Tally
     match digits::scan(known, digits) {
         Found::Bad(place) => refused(8, place as u16),
         Found::Sound(count) => {
-            if !worth_is(scalar, digits) {
+            if !worth_is(scalar::code_of(order), scalar, digits) {
                 return refused(9, 0);
             }
             Tally {
@@ -236,10 +238,10 @@ pub fn check(width: u8, scalar: &[u8], digits: &[i8]) -> Tally
 }
 
 // The check of a string whose nonzero digits have to stand apart. Its own rule is the last, so what the plain check refuses stays refused.
-pub fn check_nonadjacent(width: u8, scalar: &[u8], digits: &[i8]) -> Tally
-    ensures { λ r. ⌜ Check (nonadjacentRules width (now (scalar .entry)) (now (digits .entry))) (now (digits .entry)) (told r) ⌝ }
+pub fn check_nonadjacent(width: u8, order: Order, scalar: &[u8], digits: &[i8]) -> Tally
+    ensures { λ r. ⌜ Check (nonadjacentRules width (ordered order) (now (scalar .entry)) (now (digits .entry))) (now (digits .entry)) (told r) ⌝ }
 {
-    let plain = check(width, scalar, digits);
+    let plain = check(width, order, scalar, digits);
     if plain.refusal != 0 {
         return plain;
     }

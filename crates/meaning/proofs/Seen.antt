@@ -6,7 +6,7 @@ use mathlib.Core.List.{List, [], _∷_}
 use lib.Count.{trailingZeros}
 use lib.Dec.{lit≤}
 use lib.IntN.{ℤ, pos, negsuc}
-use Rattle.meaning.specs.Scalars.{number}
+use Rattle.meaning.specs.Scalars.{highestFirst, lowestFirst, number}
 use Rattle.meaning.specs.Digits.{inSet, largest, nonzero, worth, weight, top, listed}
 use Rattle.meaning.specs.Mof.{mof}
 use Rattle.meaning.specs.Windows.{windowWorth, shrink, entryUnit, entryTwos}
@@ -26,10 +26,14 @@ use Rattle.meaning.specs.Frames.{malformed, byteOf, digitBytes, accepted
 thirteen : List ℤ
 thirteen = pos 1 ∷ pos 0 ∷ negsuc 0 ∷ pos 0 ∷ pos 1 ∷ pos 0 ∷ pos 0 ∷ pos 0 ∷ pos 0 ∷ []
 
--- bytes come highest first
-big-endian : number (1 ∷ 93 ∷ []) ≡ 349
+-- one frame in either order
+highest-first : number highestFirst (1 ∷ 93 ∷ []) ≡ 349
 unfolding number
-big-endian = refl
+highest-first = refl
+
+lowest-first : number lowestFirst (1 ∷ 93 ∷ []) ≡ 23809
+unfolding number
+lowest-first = refl
 
 -- 4 is no digit of width 4, and -7 is
 no-half : inSet (largest 4) (pos 4) ≡ false

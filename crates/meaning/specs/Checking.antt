@@ -8,7 +8,7 @@ use Prim.Native.Nat.{ℕ, _+_, _<_}
 use lib.Dec.{T}
 use lib.IntN.{ℤ, pos}
 use lib.ListN.{length, getD}
-use Rattle.meaning.specs.Scalars.{number}
+use Rattle.meaning.specs.Scalars.{Order, number}
 use Rattle.meaning.specs.Digits.{mostPlaces, largest, inSet, worth, weight, top, Tally}
 use Rattle.meaning.specs.Refusals.{Rule, plain, lowest, First, granted, badWidth, longScalar}
 
@@ -35,12 +35,12 @@ pub record Crowded (w : ℕ) (ds : List ℤ) (p : ℕ) : Type 0 where
   pub there : getD ds other (pos 0) ≢ pos 0
 
 -- 2, 3, 7, 8, then 9: string not worth the scalar
-abbrev pub checkRules : (w : ℕ) (s : List ℕ) (ds : List ℤ) → List Rule
-checkRules w s ds = badWidth w ∷ longScalar s ∷ longString ds ∷ badDigit (largest w) ds ∷ plain 9 (worth ds ≢ pos (number s)) ∷ []
+abbrev pub checkRules : (w : ℕ) (o : Order) (s : List ℕ) (ds : List ℤ) → List Rule
+checkRules w o s ds = badWidth w ∷ longScalar s ∷ longString ds ∷ badDigit (largest w) ds ∷ plain 9 (worth ds ≢ pos (number o s)) ∷ []
 
 -- the nonadjacent check adds 10: two nonzero digits fewer than w places apart; place is the lower of the lowest such pair
-abbrev pub nonadjacentRules : (w : ℕ) (s : List ℕ) (ds : List ℤ) → List Rule
-nonadjacentRules w s ds = checkRules w s ds ++ (lowest 10 (Crowded w ds) ∷ [])
+abbrev pub nonadjacentRules : (w : ℕ) (o : Order) (s : List ℕ) (ds : List ℤ) → List Rule
+nonadjacentRules w o s ds = checkRules w o s ds ++ (lowest 10 (Crowded w ds) ∷ [])
 
 -- ---- what a check by these rules returns
 pub record Check (rules : List Rule) (ds : List ℤ) (a : Tally) : Type 0 where

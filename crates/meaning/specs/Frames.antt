@@ -8,7 +8,7 @@ use Prim.Native.Nat.{ℕ, _+_, _-_, _/_, _%_}
 use lib.Dec.{T, ltb, eqb}
 use lib.IntN.{ℤ, pos, negsuc}
 use lib.ListN.{length, getD, drop}
-use Rattle.meaning.specs.Scalars.{number, bitCount}
+use Rattle.meaning.specs.Scalars.{highestFirst, number, bitCount}
 use Rattle.meaning.specs.Digits.{weight, top}
 use Rattle.meaning.specs.Forms.{Form}
 use Rattle.meaning.specs.Refusals.{Rule, plain, First}
@@ -20,7 +20,7 @@ use Rattle.meaning.specs.Hexadecimal.{allHex, bytesOf, written}
 abbrev pub mostCharacters : ℕ
 mostCharacters = 144
 
--- ---- a frame: form, width, scalar length, then the scalar's bytes
+-- ---- a frame: form, width, scalar length, then the scalar's bytes, highest first
 -- 16: empty, over 144 characters, of odd length, holding another character, under three bytes, or of another length than stated
 unfoldable pub malformed : List ℕ → Bool
 malformed line =
@@ -69,7 +69,7 @@ acceptedBytes ds = 0 ∷ (twoBytes (weight ds) ++ (twoBytes (top ds) ++ digitByt
 pub record Answer (line out : List ℕ) : Type 0 where
   pub refusal : ℕ
   pub first : First (lineRules line) refusal 0
-  pub accepted : refusal ≡ 0 → (ds : List ℤ) × Form (formOf line) (widthOf line) (number (scalarOf line)) (bitCount (scalarOf line)) ds × (out ≡ written (acceptedBytes ds) ++ (lineFeed ∷ []))
+  pub accepted : refusal ≡ 0 → (ds : List ℤ) × Form (formOf line) (widthOf line) (number highestFirst (scalarOf line)) (bitCount (scalarOf line)) ds × (out ≡ written (acceptedBytes ds) ++ (lineFeed ∷ []))
   pub refused : refusal ≢ 0 → out ≡ written (refusal ∷ []) ++ (lineFeed ∷ [])
 
 -- out is what the program writes for an input: the answers to its lines, one after the other

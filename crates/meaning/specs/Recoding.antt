@@ -6,7 +6,7 @@ use mathlib.Core.List.{List, [], _∷_, _++_}
 use Prim.Native.Nat.{ℕ, zero, suc, _+_, _*_, _<_}
 use lib.IntN.{ℤ}
 use lib.ListN.{length, drop}
-use Rattle.meaning.specs.Scalars.{number, bitCount}
+use Rattle.meaning.specs.Scalars.{Order, number, bitCount}
 use Rattle.meaning.specs.Digits.{leastWidth, mostWidth, nonzero, weight, top, listed, Tally}
 use Rattle.meaning.specs.Forms.{Form, mostForm}
 use Rattle.meaning.specs.Refusals.{Rule, plain, First, longScalar}
@@ -40,9 +40,9 @@ recodeRules form w s places words =
 
 -- ---- what the call returns and leaves
 -- on acceptance: the digits of the form and then what stood past them, the marks of those digits likewise, their weight and their top
-pub record Recoded (form w : ℕ) (s : List ℕ) (digits₀ : List ℤ) (marks₀ : List ℕ) (a : Tally) (digits : List ℤ) (marks : List ℕ) : Type 0 where
+pub record Recoded (form w : ℕ) (o : Order) (s : List ℕ) (digits₀ : List ℤ) (marks₀ : List ℕ) (a : Tally) (digits : List ℤ) (marks : List ℕ) : Type 0 where
   pub string : List ℤ
-  pub formed : Form form w (number s) (bitCount s) string
+  pub formed : Form form w (number o s) (bitCount s) string
   pub digits-are : digits ≡ string ++ drop (bitCount s + 1) digits₀
   pub marks-are : marks ≡ marksOf string ++ drop markWords marks₀
   pub weight-is : a .weight ≡ weight string
@@ -56,7 +56,7 @@ pub record Unrecoded (digits₀ : List ℤ) (marks₀ : List ℕ) (a : Tally) (d
   pub top-is : a .top ≡ 0
 
 -- the call, and the two buffers afterwards
-pub record Recode (form w : ℕ) (s : List ℕ) (digits₀ : List ℤ) (marks₀ : List ℕ) (a : Tally) (digits : List ℤ) (marks : List ℕ) : Type 0 where
+pub record Recode (form w : ℕ) (o : Order) (s : List ℕ) (digits₀ : List ℤ) (marks₀ : List ℕ) (a : Tally) (digits : List ℤ) (marks : List ℕ) : Type 0 where
   pub first : First (recodeRules form w s (length digits₀) (length marks₀)) (a .refusal) (a .place)
-  pub accepted : a .refusal ≡ 0 → Recoded form w s digits₀ marks₀ a digits marks
+  pub accepted : a .refusal ≡ 0 → Recoded form w o s digits₀ marks₀ a digits marks
   pub refused : a .refusal ≢ 0 → Unrecoded digits₀ marks₀ a digits marks

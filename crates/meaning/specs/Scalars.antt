@@ -1,13 +1,29 @@
--- Scalars: big-endian bytes, the number that they mean, and its bits. Nothing below but `number` knows the order of the bytes.
+-- Scalars: bytes in one of two orders, the number that they mean, and its bits. Nothing below but `number` knows the order of the bytes.
 -- Assumes nothing.
 use mathlib.Core.List.{List, [], _∷_}
-use Prim.Native.Nat.{ℕ, _+_, _*_, _/_, _%_, _^_}
+use Prim.Native.Nat.{ℕ, zero, suc, _+_, _*_, _/_, _%_, _^_}
 use lib.ListN.{length}
 
--- the number that the bytes mean, the highest byte first
-unfoldable pub number : List ℕ → ℕ
-number [] = 0
-number (b ∷ bs) = b * 2 ^ (8 * length bs) + number bs
+-- which end of the number the bytes begin with
+pub data Order : Type 0 where
+  highestFirst : Order
+  lowestFirst : Order
+
+-- the number that the bytes mean in an order
+unfoldable pub number : Order → List ℕ → ℕ
+number highestFirst [] = 0
+number highestFirst (b ∷ bs) = b * 2 ^ (8 * length bs) + number highestFirst bs
+number lowestFirst [] = 0
+number lowestFirst (b ∷ bs) = b + 256 * number lowestFirst bs
+
+-- an order as a byte, and the order that a byte tells: 0 highest first, anything else lowest first
+abbrev pub codeOf : Order → ℕ
+codeOf highestFirst = 0
+codeOf lowestFirst = 1
+
+unfoldable pub orderOf : ℕ → Order
+orderOf zero = highestFirst
+orderOf (suc b) = lowestFirst
 
 -- with L bytes, n = 8 L bits
 abbrev pub bitCount : List ℕ → ℕ

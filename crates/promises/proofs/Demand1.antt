@@ -8,7 +8,7 @@ use native.Mathlib.Omega.{arith}
 use lib.Dec.{T}
 use lib.IntN.{ℤ, pos}
 use lib.ListN.{length}
-use Rattle.meaning.specs.Scalars.{number, bitCount}
+use Rattle.meaning.specs.Scalars.{Order, number, bitCount}
 use Rattle.meaning.specs.Digits.{worth, Tally}
 use Rattle.meaning.specs.Forms.{Form}
 use Rattle.meaning.specs.Refusals.{Rule, First}
@@ -29,15 +29,15 @@ use Rattle.promises.proofs.Tape as Taping
 use Rattle.promises.proofs.Check as Checking
 
 -- ---- each number exactly when, in order
-pub recode-exactly : (form w : ℕ) (s : List ℕ) (digits₀ : List ℤ) (marks₀ : List ℕ) (o : Recoding.Outcome) → Recoding.Keeps form w s digits₀ marks₀ o
+pub recode-exactly : (form w : ℕ) (order : Order) (s : List ℕ) (digits₀ : List ℤ) (marks₀ : List ℕ) (o : Recoding.Outcome) → Recoding.Keeps form w order s digits₀ marks₀ o
     → Exactly (recodeRules form w s (length digits₀) (length marks₀)) (o .tally .refusal) (o .tally .place)
-recode-exactly form w s digits₀ marks₀ o K = exactly (recodeRules form w s (length digits₀) (length marks₀)) tt _ _ (K .first)
+recode-exactly form w order s digits₀ marks₀ o K = exactly (recodeRules form w s (length digits₀) (length marks₀)) tt _ _ (K .first)
 
-pub check-exactly : (w : ℕ) (s : List ℕ) (ds : List ℤ) (v : Tally) → Checking.Keeps (checkRules w s ds) ds v → Exactly (checkRules w s ds) (v .refusal) (v .place)
-check-exactly w s ds v K = exactly (checkRules w s ds) tt _ _ (K .first)
+pub check-exactly : (w : ℕ) (order : Order) (s : List ℕ) (ds : List ℤ) (v : Tally) → Checking.Keeps (checkRules w order s ds) ds v → Exactly (checkRules w order s ds) (v .refusal) (v .place)
+check-exactly w order s ds v K = exactly (checkRules w order s ds) tt _ _ (K .first)
 
-pub nonadjacent-exactly : (w : ℕ) (s : List ℕ) (ds : List ℤ) (v : Tally) → Checking.Keeps (nonadjacentRules w s ds) ds v → Exactly (nonadjacentRules w s ds) (v .refusal) (v .place)
-nonadjacent-exactly w s ds v K = exactly (nonadjacentRules w s ds) tt _ _ (K .first)
+pub nonadjacent-exactly : (w : ℕ) (order : Order) (s : List ℕ) (ds : List ℤ) (v : Tally) → Checking.Keeps (nonadjacentRules w order s ds) ds v → Exactly (nonadjacentRules w order s ds) (v .refusal) (v .place)
+nonadjacent-exactly w order s ds v K = exactly (nonadjacentRules w order s ds) tt _ _ (K .first)
 
 pub tape-exactly : (w : ℕ) (ds : List ℤ) (words₀ : List ℕ) (o : Taping.Outcome) → Taping.Keeps w ds words₀ o → Exactly (tapeRules w ds (length words₀)) (o .taped .refusal) (o .taped .place)
 tape-exactly w ds words₀ o K = exactly (tapeRules w ds (length words₀)) tt _ _ (K .first)
@@ -46,8 +46,8 @@ pub run-exactly : (w : ℕ) (ws : List ℕ) (m g : ℕ) (multiples₀ : List ℕ
     → Exactly (runRules w ws m (length multiples₀)) (a .refusal) (a .place)
 run-exactly w ws m g multiples₀ a multiples K = exactly (runRules w ws m (length multiples₀)) tt _ _ (K .first)
 
-pub reader-exactly : (w : ℕ) (s : List ℕ) (r : ℕ) → Holds w s r → Exactly (readerRules w s) r 0
-reader-exactly w s r H = exactly (readerRules w s) tt _ _ H
+pub reader-exactly : (w : ℕ) (order : Order) (s : List ℕ) (r : ℕ) → Holds w s r → Exactly (readerRules w s) r 0
+reader-exactly w order s r H = exactly (readerRules w s) tt _ _ H
 
 pub search-exactly : (number w : ℕ) (a : Searched) → Search number w a → Exactly (searchRules number w) (a .refusal) 0
 search-exactly number w a K = exactly (searchRules number w) tt _ _ (K .first)
@@ -84,16 +84,16 @@ line-exactly line out A = go (A .first)
         }
 
 -- ---- n + 1 places always suffice: in every form, at every width that it has, each scalar has a string of so many, which is worth it, and no digit is needed above them
-pub places-suffice : (form w : ℕ) → Allowed form w → (s : List ℕ) → Bytes s → (ds : List ℤ) × Form form w (number s) (bitCount s) ds × (length ds ≡ bitCount s + 1) × (worth ds ≡ pos (number s))
-places-suffice form w a s bytes =
-    let small = number-lt s bytes in
-    let (ds, f) = form-exists w (number s) (bitCount s) (a .wide .0) small form (a .least) (a .most) in
-    (ds, f, form-length w (number s) (bitCount s) (a .wide .0) small form ds f, form-worth w (number s) (bitCount s) (a .wide .0) small form ds f)
+pub places-suffice : (form w : ℕ) → Allowed form w → (order : Order) (s : List ℕ) → Bytes s → (ds : List ℤ) × Form form w (number order s) (bitCount s) ds × (length ds ≡ bitCount s + 1) × (worth ds ≡ pos (number order s))
+places-suffice form w a order s bytes =
+    let small = number-lt order s bytes in
+    let (ds, f) = form-exists w (number order s) (bitCount s) (a .wide .0) small form (a .least) (a .most) in
+    (ds, f, form-length w (number order s) (bitCount s) (a .wide .0) small form ds f, form-worth w (number order s) (bitCount s) (a .wide .0) small form ds f)
 
 -- ---- no lent buffer differs after a refusal
-pub recode-kept : (form w : ℕ) (s : List ℕ) (digits₀ : List ℤ) (marks₀ : List ℕ) (o : Recoding.Outcome) → Recoding.Keeps form w s digits₀ marks₀ o → o .tally .refusal ≢ 0
+pub recode-kept : (form w : ℕ) (order : Order) (s : List ℕ) (digits₀ : List ℤ) (marks₀ : List ℕ) (o : Recoding.Outcome) → Recoding.Keeps form w order s digits₀ marks₀ o → o .tally .refusal ≢ 0
     → (o .digits ≡ digits₀) × (o .marks ≡ marks₀)
-recode-kept form w s digits₀ marks₀ o K n = (K .refused n .digits-are, K .refused n .marks-are)
+recode-kept form w order s digits₀ marks₀ o K n = (K .refused n .digits-are, K .refused n .marks-are)
 
 pub tape-kept : (w : ℕ) (ds : List ℤ) (words₀ : List ℕ) (o : Taping.Outcome) → Taping.Keeps w ds words₀ o → o .taped .refusal ≢ 0 → o .words ≡ words₀
 tape-kept w ds words₀ o K n = K .words-are ∙ kept-lent (o .taped .refusal) _ words₀ n

@@ -6,7 +6,7 @@ use Prim.Native.Nat.{ℕ, _+_, _^_, _<_, _≤_}
 use lib.IntN.{ℤ, pos, _*ℤ_}
 use lib.ListN.{length, take}
 use lib.Seq.{take-at}
-use Rattle.meaning.specs.Scalars.{number, bitCount}
+use Rattle.meaning.specs.Scalars.{Order, number, bitCount}
 use Rattle.meaning.specs.Digits.{worth, Tally}
 use Rattle.meaning.specs.Forms.{Form}
 use Rattle.meaning.specs.Checking.{checkRules}
@@ -19,10 +19,10 @@ use Rattle.promises.proofs.Recode.{accepted-width}
 use Rattle.promises.proofs.Tape as Taping
 use Rattle.promises.proofs.Check as Checking
 
-module _ {form w : ℕ} {s : List ℕ} {digits₀ : List ℤ} {marks₀ : List ℕ} (o : Recoding.Outcome) (K : Recoding.Keeps form w s digits₀ marks₀ o)
+module _ {form w : ℕ} {order : Order} {s : List ℕ} {digits₀ : List ℤ} {marks₀ : List ℕ} (o : Recoding.Outcome) (K : Recoding.Keeps form w order s digits₀ marks₀ o)
     (z : o .tally .refusal ≡ 0) (bytes : Bytes s) where
-  small : number s < 2 ^ bitCount s
-  small = number-lt s bytes
+  small : number order s < 2 ^ bitCount s
+  small = number-lt order s bytes
 
   two : 2 ≤ w
   two = accepted-width form w s (length digits₀) (length marks₀) (o .tally .place) (K .first) z
@@ -31,19 +31,19 @@ module _ {form w : ℕ} {s : List ℕ} {digits₀ : List ℤ} {marks₀ : List �
   pub recoded-string : take (bitCount s + 1) (o .digits) ≡ K .accepted z .string
   recoded-string =
       let A = K .accepted z in
-      ap (take (bitCount s + 1)) (A .digits-are) ∙ take-at (A .string) _ (bitCount s + 1) (form-length w (number s) (bitCount s) two small form (A .string) (A .formed))
+      ap (take (bitCount s + 1)) (A .digits-are) ∙ take-at (A .string) _ (bitCount s + 1) (form-length w (number order s) (bitCount s) two small form (A .string) (A .formed))
 
   -- which is the form's, digit for digit
-  pub recoded-form : Form form w (number s) (bitCount s) (take (bitCount s + 1) (o .digits))
-  recoded-form = subst (λ ds. Form form w (number s) (bitCount s) ds) (sym recoded-string) (K .accepted z .formed)
+  pub recoded-form : Form form w (number order s) (bitCount s) (take (bitCount s + 1) (o .digits))
+  recoded-form = subst (λ ds. Form form w (number order s) (bitCount s) ds) (sym recoded-string) (K .accepted z .formed)
 
   -- and worth the scalar
-  pub recoded-worth : worth (take (bitCount s + 1) (o .digits)) ≡ pos (number s)
-  recoded-worth = form-worth w (number s) (bitCount s) two small form (take (bitCount s + 1) (o .digits)) recoded-form
+  pub recoded-worth : worth (take (bitCount s + 1) (o .digits)) ≡ pos (number order s)
+  recoded-worth = form-worth w (number order s) (bitCount s) two small form (take (bitCount s + 1) (o .digits)) recoded-form
 
 -- the check says yes for exactly the legal strings that are worth the scalar
-pub check-says : (w : ℕ) (s : List ℕ) (ds : List ℤ) (v : Tally) → Checking.Keeps (checkRules w s ds) ds v → (v .refusal ≡ 0 → Checking.Legal w s ds) × (Checking.Legal w s ds → v .refusal ≡ 0)
-check-says w s ds v K = (Checking.check-yes w s ds v K, λ L. ap (λ (x : Tally). x .refusal) (Checking.check-yes-only w s ds L v K))
+pub check-says : (w : ℕ) (order : Order) (s : List ℕ) (ds : List ℤ) (v : Tally) → Checking.Keeps (checkRules w order s ds) ds v → (v .refusal ≡ 0 → Checking.Legal w order s ds) × (Checking.Legal w order s ds → v .refusal ≡ 0)
+check-says w order s ds v K = (Checking.check-yes w order s ds v K, λ L. ap (λ (x : Tally). x .refusal) (Checking.check-yes-only w order s ds L v K))
 
 -- running the tape of a string that is worth the scalar gives the scalar times the base
 pub run-gives-scalar : {w m g : ℕ} {ds : List ℤ} {words₀ multiples₀ multiples : List ℕ} (N : ℕ) → worth ds ≡ pos N → (t : Taping.Outcome) → Taping.Keeps w ds words₀ t → t .taped .refusal ≡ 0
@@ -51,7 +51,7 @@ pub run-gives-scalar : {w m g : ℕ} {ds : List ℤ} {words₀ multiples₀ mult
 run-gives-scalar {m = m} {g = g} N e t K z r P y = subst (λ v. Residue m (v *ℤ pos g) (r .residue)) e (together K z P y .residue-is)
 
 -- so of a string that the check accepted
-pub checked-run : {w m g : ℕ} {ds : List ℤ} {words₀ multiples₀ multiples : List ℕ} (s : List ℕ) (v : Tally) → Checking.Keeps (checkRules w s ds) ds v → v .refusal ≡ 0
+pub checked-run : {w m g : ℕ} {ds : List ℤ} {words₀ multiples₀ multiples : List ℕ} (order : Order) (s : List ℕ) (v : Tally) → Checking.Keeps (checkRules w order s ds) ds v → v .refusal ≡ 0
     → (t : Taping.Outcome) → Taping.Keeps w ds words₀ t → t .taped .refusal ≡ 0
-    → (r : Ran) → Run w (take (t .taped .words) (t .words)) m g multiples₀ r multiples → r .refusal ≡ 0 → Residue m (pos (number s) *ℤ pos g) (r .residue)
-checked-run {w = w} {ds = ds} s v C c t K z r P y = run-gives-scalar (number s) (Checking.check-yes w s ds v C c .worth-is) t K z r P y
+    → (r : Ran) → Run w (take (t .taped .words) (t .words)) m g multiples₀ r multiples → r .refusal ≡ 0 → Residue m (pos (number order s) *ℤ pos g) (r .residue)
+checked-run {w = w} {ds = ds} order s v C c t K z r P y = run-gives-scalar (number order s) (Checking.check-yes w order s ds v C c .worth-is) t K z r P y

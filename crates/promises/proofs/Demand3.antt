@@ -8,7 +8,7 @@ use native.Mathlib.Omega.{arith}
 use lib.Dec.{T}
 use lib.IntN.{ℤ, pos}
 use lib.ListN.{length, take}
-use Rattle.meaning.specs.Scalars.{number, bitCount}
+use Rattle.meaning.specs.Scalars.{Order, number, bitCount}
 use Rattle.meaning.specs.Digits.{worth, weight, top, allIn, largest}
 use Rattle.meaning.specs.Walks.{doublings, additions}
 use Rattle.meaning.specs.Running.{Run, Ran}
@@ -23,25 +23,25 @@ use Rattle.promises.proofs.Recode as Recoding
 use Rattle.promises.proofs.Recode.{accepted-width}
 use Rattle.promises.proofs.Tape as Taping
 
-module _ {form w : ℕ} {s : List ℕ} {digits₀ : List ℤ} {marks₀ : List ℕ} (o : Recoding.Outcome) (K : Recoding.Keeps form w s digits₀ marks₀ o)
+module _ {form w : ℕ} {order : Order} {s : List ℕ} {digits₀ : List ℤ} {marks₀ : List ℕ} (o : Recoding.Outcome) (K : Recoding.Keeps form w order s digits₀ marks₀ o)
     (z : o .tally .refusal ≡ 0) (bytes : Bytes s) (light : 2 ≤ form) where
-  small : number s < 2 ^ bitCount s
-  small = number-lt s bytes
+  small : number order s < 2 ^ bitCount s
+  small = number-lt order s bytes
 
   two : 2 ≤ w
   two = accepted-width form w s (length digits₀) (length marks₀) (o .tally .place) (K .first) z
 
   -- the weight that recode reports is the least of any string of D_w digits, whatever its length, that is worth the scalar
-  pub recoded-least : (es : List ℤ) → T (allIn (largest w) es) → worth es ≡ pos (number s) → o .tally .weight ≤ weight es
+  pub recoded-least : (es : List ℤ) → T (allIn (largest w) es) → worth es ≡ pos (number order s) → o .tally .weight ≤ weight es
   recoded-least es t e =
       let A = K .accepted z in
-      omega (arith, A .weight-is, form-least w (number s) (bitCount s) two small form (A .string) (A .formed) light es t e)
+      omega (arith, A .weight-is, form-least w (number order s) (bitCount s) two small form (A .string) (A .formed) light es t e)
 
   -- and with n bits lent it is at most (n + w) / w
   pub recoded-bound : o .tally .weight ≤ (bitCount s + w) / w
   recoded-bound =
       let A = K .accepted z in
-      omega (arith, A .weight-is, form-bound w (number s) (bitCount s) two small form (A .string) (A .formed) light)
+      omega (arith, A .weight-is, form-bound w (number order s) (bitCount s) two small form (A .string) (A .formed) light)
 
 module _ {w : ℕ} {ds : List ℤ} {words₀ : List ℕ} (t : Taping.Outcome) (K : Taping.Keeps w ds words₀ t) (z : t .taped .refusal ≡ 0) where
   -- what its tape is

@@ -8,7 +8,7 @@ use native.Mathlib.Omega.{arith}
 use native.Mathlib.Decide.{ℕ-discrete}
 use lib.IntN.{ℤ, pos, _*ℤ_}
 use lib.ListN.{length, take}
-use Rattle.meaning.specs.Scalars.{number, bitCount}
+use Rattle.meaning.specs.Scalars.{Order, number, bitCount}
 use Rattle.meaning.specs.Digits.{largest, entries, weight, top, Tally}
 use Rattle.meaning.specs.Wnaf.{Wnaf}
 use Rattle.meaning.specs.Forms.{Has, asked, Form}
@@ -38,17 +38,17 @@ pub record Ends (N m g k t : ℕ) (r : Ran) : Type 0 where
   pub doublings-are : r .doublings ≡ t - 1
   pub additions-are : r .additions ≡ k - 1
 
-module _ {w : ℕ} {s : List ℕ} {ds : List ℤ} (L : Legal w s ds) {words₀ : List ℕ} (room : mostWords ≤ length words₀) (t : Taping.Outcome) (K : Taping.Keeps w ds words₀ t) where
+module _ {w : ℕ} {order : Order} {s : List ℕ} {ds : List ℤ} (L : Legal w order s ds) {words₀ : List ℕ} (room : mostWords ≤ length words₀) (t : Taping.Outcome) (K : Taping.Keeps w ds words₀ t) where
   -- 1,057 words are room for every string's tape
   pub legal-taped : t .taped .refusal ≡ 0
   legal-taped =
-      let (width, (_, (_, (sound, _)))) = legal-clear w s ds L in
+      let (width, (_, (_, (sound, _)))) = legal-clear w order s ds L in
       first-only (tapeRules w ds (length words₀)) (K .first)
       (first-none (tapeRules w ds (length words₀)) (width, ((λ h. omega (arith, L .short)), (sound, ((λ h. omega (arith, tape-fits ds (L .short))), tt))))) .0
 
   -- and its run is refused only where the modulus is 0 or the multiples have no room
   pub legal-ran : {m g : ℕ} {multiples₀ multiples : List ℕ} → m ≢ 0 → entries (largest w) ≤ length multiples₀ → (r : Ran) → Run w (take (t .taped .words) (t .words)) m g multiples₀ r multiples
-      → Ends (number s) m g (weight ds) (top ds) r
+      → Ends (number order s) m g (weight ds) (top ds) r
   legal-ran {m} {g} some fits r P =
       let e = together-accepted K legal-taped P some fits in
       let d = together K legal-taped P e in
@@ -60,7 +60,7 @@ module _ {w : ℕ} {s : List ℕ} {ds : List ℤ} (L : Legal w s ds) {words₀ :
       }
 
 -- ---- from a scalar
-module _ {form w : ℕ} {s : List ℕ} {digits₀ : List ℤ} {marks₀ : List ℕ} (o : Recoding.Outcome) (K : Recoding.Keeps form w s digits₀ marks₀ o)
+module _ {form w : ℕ} {order : Order} {s : List ℕ} {digits₀ : List ℤ} {marks₀ : List ℕ} (o : Recoding.Outcome) (K : Recoding.Keeps form w order s digits₀ marks₀ o)
     (z : o .tally .refusal ≡ 0) (bytes : Bytes s) where
   -- the digits that recode wrote
   abbrev pub string : List ℤ
@@ -79,19 +79,19 @@ module _ {form w : ℕ} {s : List ℕ} {digits₀ : List ℤ} {marks₀ : List �
       go (yes h) = h
       go (no h) = absurd (none .1 .0 (inr (e, h)))
 
-  formed : Form form w (number s) (bitCount s) string
+  formed : Form form w (number order s) (bitCount s) string
   formed = recoded-form o K z bytes
 
   -- they are legal: in D_w and worth the scalar
-  pub recoded-legal : Legal w s string
+  pub recoded-legal : Legal w order s string
   recoded-legal =
-      let small = number-lt s bytes in
+      let small = number-lt order s bytes in
       let few = not-below (none .1 .1 .0) in
       record {
         wide = (two, not-below (λ l. none .1 .0 (inl (inr l))));
         few = few;
-        short = omega (arith, few, form-length w (number s) (bitCount s) two small form string formed);
-        digits = form-digits w (number s) (bitCount s) two small form string formed narrow;
+        short = omega (arith, few, form-length w (number order s) (bitCount s) two small form string formed);
+        digits = form-digits w (number order s) (bitCount s) two small form string formed narrow;
         worth-is = recoded-worth o K z bytes;
       }
 
@@ -110,15 +110,15 @@ module _ {form w : ℕ} {s : List ℕ} {digits₀ : List ℤ} {marks₀ : List �
   counted e = e ∙ ap (λ k. record { refusal = 0; place = 0; weight = k; top = top string }) weight-is ∙ ap (λ t. record { refusal = 0; place = 0; weight = o .tally .weight; top = t }) top-is
 
   -- the plain check says yes of every form's digits
-  pub recoded-checked : (v : Tally) → Checking.Keeps (checkRules w s string) string v → Yes v
-  recoded-checked v C = counted (check-yes-only w s string recoded-legal v C)
+  pub recoded-checked : (v : Tally) → Checking.Keeps (checkRules w order s string) string v → Yes v
+  recoded-checked v C = counted (check-yes-only w order s string recoded-legal v C)
 
   -- and the nonadjacent check of wNAF's
-  pub recoded-nonadjacent : form ≡ 2 → (v : Tally) → Checking.Keeps (nonadjacentRules w s string) string v → Yes v
+  pub recoded-nonadjacent : form ≡ 2 → (v : Tally) → Checking.Keeps (nonadjacentRules w order s string) string v → Yes v
   unfolding asked Has
   recoded-nonadjacent e v C =
-      let F : Wnaf w (number s) (bitCount s) string = subst (λ f. Form f w (number s) (bitCount s) string) e formed in
-      counted (nonadjacent-yes-only w s string recoded-legal (F .apart) v C)
+      let F : Wnaf w (number order s) (bitCount s) string = subst (λ f. Form f w (number order s) (bitCount s) string) e formed in
+      counted (nonadjacent-yes-only w order s string recoded-legal (F .apart) v C)
 
   module _ {words₀ : List ℕ} (room : mostWords ≤ length words₀) (t : Taping.Outcome) (T : Taping.Keeps w string words₀ t) where
     -- tape accepts them into a buffer of 1,057 words, with one addition fewer than recode's weight and a doubling for each place under its top
@@ -129,17 +129,17 @@ module _ {form w : ℕ} {s : List ℕ} {digits₀ : List ℤ} {marks₀ : List �
 
     -- and run accepts that tape, for every modulus that is not 0, and gives the scalar times the base
     pub recoded-ran : {m g : ℕ} {multiples₀ multiples : List ℕ} → m ≢ 0 → entries (largest w) ≤ length multiples₀ → (r : Ran) → Run w (take (t .taped .words) (t .words)) m g multiples₀ r multiples
-        → Ends (number s) m g (o .tally .weight) (o .tally .top) r
+        → Ends (number order s) m g (o .tally .weight) (o .tally .top) r
     recoded-ran {m} {g} some fits r P = rw (← weight-is, ← top-is) (legal-ran recoded-legal room t T some fits r P)
 
 -- ---- from a string made elsewhere
-module _ {w : ℕ} (s : List ℕ) {ds : List ℤ} (v : Tally) (C : Checking.Keeps (checkRules w s ds) ds v) (z : v .refusal ≡ 0)
+module _ {w : ℕ} (order : Order) (s : List ℕ) {ds : List ℤ} (v : Tally) (C : Checking.Keeps (checkRules w order s ds) ds v) (z : v .refusal ≡ 0)
     {words₀ : List ℕ} (room : mostWords ≤ length words₀) (t : Taping.Outcome) (T : Taping.Keeps w ds words₀ t) where
-  legal : Legal w s ds
-  legal = check-yes w s ds v C z
+  legal : Legal w order s ds
+  legal = check-yes w order s ds v C z
 
   said : v ≡ record { refusal = 0; place = 0; weight = weight ds; top = top ds }
-  said = check-yes-only w s ds legal v C
+  said = check-yes-only w order s ds legal v C
 
   -- what the check said yes of, tape accepts into 1,057 words
   pub checked-taped : (t .taped .refusal ≡ 0) × (t .taped .additions ≡ v .weight - 1) × (t .taped .doublings ≡ v .top - 1)
@@ -149,6 +149,6 @@ module _ {w : ℕ} (s : List ℕ) {ds : List ℤ} (v : Tally) (C : Checking.Keep
 
   -- and run accepts its tape and gives the scalar times the base
   pub checked-ran : {m g : ℕ} {multiples₀ multiples : List ℕ} → m ≢ 0 → entries (largest w) ≤ length multiples₀ → (r : Ran) → Run w (take (t .taped .words) (t .words)) m g multiples₀ r multiples
-      → Ends (number s) m g (v .weight) (v .top) r
+      → Ends (number order s) m g (v .weight) (v .top) r
   checked-ran {m} {g} some fits r P =
-      subst (λ (x : Tally). Ends (number s) m g (x .weight) (x .top) r) (sym said) (legal-ran legal room t T some fits r P)
+      subst (λ (x : Tally). Ends (number order s) m g (x .weight) (x .top) r) (sym said) (legal-ran legal room t T some fits r P)

@@ -4,6 +4,7 @@ use mathlib.Core.Path.{_≡_, sym, ap, _∙_}
 use mathlib.Core.List.{List}
 use Prim.Native.Nat.{ℕ}
 use lib.IntN.{ℤ}
+use Rattle.meaning.specs.Scalars.{Order}
 use Rattle.meaning.specs.Running as Running
 use Rattle.meaning.specs.Running.{Run}
 use Rattle.meaning.specs.Reading.{sequence, readAt}
@@ -22,11 +23,11 @@ c-run-determined w ws m g multiples₀ a b ms ns K L = let (q, e) = run-plain w 
     plain r = record { refusal = r .refusal; place = r .place; residue = r .residue; doublings = r .doublings; additions = r .additions; cost = record { doublings = r .cost .doublings; additions = r .cost .additions } }
 
 -- ---- the reader
-pub c-read-at-determined : (w : ℕ) (s : List ℕ) (k : ℕ) (a b : Reading) → Reads w s k (a .refusal) (a .given) (a .digit) → Reads w s k (b .refusal) (b .given) (b .digit) → a ≡ b
-c-read-at-determined w s k a b K L =
+pub c-read-at-determined : (w : ℕ) (order : Order) (s : List ℕ) (k : ℕ) (a b : Reading) → Reads w order s k (a .refusal) (a .given) (a .digit) → Reads w order s k (b .refusal) (b .given) (b .digit) → a ≡ b
+c-read-at-determined w order s k a b K L =
     let r = same-number w s (a .refusal) (b .refusal) (K .holds) (L .holds) in
-    let g = K .given-is ∙ ap (λ x. given (readAt (sequence x w s) k)) r ∙ sym (L .given-is) in
-    let d = K .digit-is ∙ ap (λ x. digitOf (readAt (sequence x w s) k)) r ∙ sym (L .digit-is) in
+    let g = K .given-is ∙ ap (λ x. given (readAt (sequence x w order s) k)) r ∙ sym (L .given-is) in
+    let d = K .digit-is ∙ ap (λ x. digitOf (readAt (sequence x w order s) k)) r ∙ sym (L .digit-is) in
     let same : made (a .refusal) (a .given) (a .digit) ≡ made (b .refusal) (b .given) (b .digit) = cc in
     same
   where

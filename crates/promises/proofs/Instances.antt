@@ -12,7 +12,7 @@ use lib.IntN.{ℤ, pos, _*ℤ_, ℤ-discrete}
 use lib.ListN.{length, getD, drop, List·getD-eq-default}
 use Rattle.laws.proofs.Choices.{not-below}
 use Rattle.laws.proofs.Division.{floor}
-use Rattle.meaning.specs.Scalars.{number, bitCount}
+use Rattle.meaning.specs.Scalars.{Order, number, bitCount}
 use Rattle.meaning.specs.Digits.{leastWidth, mostWidth, largest, entries, inSet, worth, weight, top, Tally}
 use Rattle.meaning.specs.Forms.{mostForm}
 use Rattle.meaning.specs.Refusals.{Rule, plain, lowest, numberOf, Lowest, Applies, Fails, First, granted, kept, badWidth}
@@ -110,8 +110,8 @@ bad? m ds = among (BadDigit m ds) one (length ds) (λ p b. b .within)
         go (no n) = no (λ b. n (b .within, b .bad))
 
 -- ---- recode, of a scalar of bytes
-recode-decided : (form w : ℕ) (s : List ℕ) (places words : ℕ) → AllDecided (recodeRules form w s places words)
-recode-decided form w s places words = (
+recode-decided : (form w : ℕ) (order : Order) (s : List ℕ) (places words : ℕ) → AllDecided (recodeRules form w s places words)
+recode-decided form w order s places words = (
   by (or? (decLt form 1) (decLt mostForm form)),
   λ _. (
     by (or? (or? (decLt w leastWidth) (decLt mostWidth w)) (and? (ℕ-discrete form 1) (not? (ℕ-discrete w 2)))),
@@ -128,16 +128,16 @@ recode-decided form w s places words = (
   ),
 )
 
-pub recode-kept-by : (form w : ℕ) (s : List ℕ) → Bytes s → (digits₀ : List ℤ) (marks₀ : List ℕ) → (o : Recoding.Outcome) × Recoding.Keeps form w s digits₀ marks₀ o
-recode-kept-by form w s bytes digits₀ marks₀ = let (r, p, f) = first-exists rules (recode-decided form w s (length digits₀) (length marks₀)) in go r p f
+pub recode-kept-by : (form w : ℕ) (order : Order) (s : List ℕ) → Bytes s → (digits₀ : List ℤ) (marks₀ : List ℕ) → (o : Recoding.Outcome) × Recoding.Keeps form w order s digits₀ marks₀ o
+recode-kept-by form w order s bytes digits₀ marks₀ = let (r, p, f) = first-exists rules (recode-decided form w order s (length digits₀) (length marks₀)) in go r p f
   where
     rules : List Rule
     rules = recodeRules form w s (length digits₀) (length marks₀)
 
-    go : (r p : ℕ) → First rules r p → (o : Recoding.Outcome) × Recoding.Keeps form w s digits₀ marks₀ o
+    go : (r p : ℕ) → First rules r p → (o : Recoding.Outcome) × Recoding.Keeps form w order s digits₀ marks₀ o
     go zero p f =
         let (a, (b, _)) = clear rules tt 0 p f refl in
-        let (ds, F) = form-exists w (number s) (bitCount s) (not-below (λ l. b (inl (inl l)))) (number-lt s bytes) form (not-below (λ l. a (inl l))) (not-below (λ l. a (inr l))) in (
+        let (ds, F) = form-exists w (number order s) (bitCount s) (not-below (λ l. b (inl (inl l)))) (number-lt order s bytes) form (not-below (λ l. a (inl l))) (not-below (λ l. a (inr l))) in (
           record { tally = record { refusal = 0; place = p; weight = weight ds; top = top ds }; digits = ds ++ drop (bitCount s + 1) digits₀; marks = marksOf ds ++ drop markWords marks₀ },
           record {
             first = f;
@@ -151,9 +151,9 @@ recode-kept-by form w s bytes digits₀ marks₀ = let (r, p, f) = first-exists 
     )
 
 -- ---- the checks
-check-decided : (w : ℕ) (s : List ℕ) (ds : List ℤ) → AllDecided (checkRules w s ds)
-check-decided w s ds =
-    (width? w, λ _. (by (decLt 66 (length s)), λ _. (by (decLt 529 (length ds)), λ _. (bad? (largest w) ds, λ _. (by (not? (ℤ-discrete (worth ds) (pos (number s)))), λ _. tt)))))
+check-decided : (w : ℕ) (order : Order) (s : List ℕ) (ds : List ℤ) → AllDecided (checkRules w order s ds)
+check-decided w order s ds =
+    (width? w, λ _. (by (decLt 66 (length s)), λ _. (by (decLt 529 (length ds)), λ _. (bad? (largest w) ds, λ _. (by (not? (ℤ-discrete (worth ds) (pos (number order s)))), λ _. tt)))))
 
 crowded? : (w : ℕ) (ds : List ℤ) → Decided (lowest 10 (Crowded w ds))
 crowded? w ds = among (Crowded w ds) one (length ds) (λ p c. there p (c .here))
@@ -176,20 +176,20 @@ crowded? w ds = among (Crowded w ds) one (length ds) (λ p c. there p (c .here))
         go (inl (j, l, (c, _))) = yes (record { other = j; above = c .0; near = l; here = c .1 .0; there = c .1 .1 })
         go (inr f) = no (λ c. f (c .other) (c .near) (c .above, (c .here, c .there)))
 
-nonadjacent-decided : (w : ℕ) (s : List ℕ) (ds : List ℤ) → AllDecided (nonadjacentRules w s ds)
-nonadjacent-decided w s ds =
-    (width? w, λ _. (by (decLt 66 (length s)), λ _. (by (decLt 529 (length ds)), λ _. (bad? (largest w) ds, λ _. (by (not? (ℤ-discrete (worth ds) (pos (number s)))), λ _. (crowded? w ds, λ _. tt))))))
+nonadjacent-decided : (w : ℕ) (order : Order) (s : List ℕ) (ds : List ℤ) → AllDecided (nonadjacentRules w order s ds)
+nonadjacent-decided w order s ds =
+    (width? w, λ _. (by (decLt 66 (length s)), λ _. (by (decLt 529 (length ds)), λ _. (bad? (largest w) ds, λ _. (by (not? (ℤ-discrete (worth ds) (pos (number order s)))), λ _. (crowded? w ds, λ _. tt))))))
 
 judged-by : (rules : List Rule) → AllDecided rules → (ds : List ℤ) → (v : Tally) × Checking.Keeps rules ds v
 judged-by rules d ds =
     let (r, p, f) = first-exists rules d in
     (record { refusal = r; place = p; weight = granted r (weight ds); top = granted r (top ds) }, record { first = f; weight-is = refl; top-is = refl })
 
-pub check-kept-by : (w : ℕ) (s : List ℕ) (ds : List ℤ) → (v : Tally) × Checking.Keeps (checkRules w s ds) ds v
-check-kept-by w s ds = judged-by (checkRules w s ds) (check-decided w s ds) ds
+pub check-kept-by : (w : ℕ) (order : Order) (s : List ℕ) (ds : List ℤ) → (v : Tally) × Checking.Keeps (checkRules w order s ds) ds v
+check-kept-by w order s ds = judged-by (checkRules w order s ds) (check-decided w order s ds) ds
 
-pub nonadjacent-kept-by : (w : ℕ) (s : List ℕ) (ds : List ℤ) → (v : Tally) × Checking.Keeps (nonadjacentRules w s ds) ds v
-nonadjacent-kept-by w s ds = judged-by (nonadjacentRules w s ds) (nonadjacent-decided w s ds) ds
+pub nonadjacent-kept-by : (w : ℕ) (order : Order) (s : List ℕ) (ds : List ℤ) → (v : Tally) × Checking.Keeps (nonadjacentRules w order s ds) ds v
+nonadjacent-kept-by w order s ds = judged-by (nonadjacentRules w order s ds) (nonadjacent-decided w order s ds) ds
 
 -- ---- tape
 pub tape-kept-by : (w : ℕ) (ds : List ℤ) (words₀ : List ℕ) → (o : Taping.Outcome) × Taping.Keeps w ds words₀ o

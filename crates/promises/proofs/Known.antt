@@ -11,7 +11,7 @@ use lib.Dec.{T, leb, eqb, leb→le, eqb→eq, T-not, lit<, lit≤}
 use Rattle.laws.proofs.Choices.{and-both, or-either, equal}
 use lib.IntN.{ℤ, pos, negsuc, _*ℤ_}
 use lib.ListN.{length, getD, drop, replicate}
-use Rattle.meaning.specs.Scalars.{number, bitCount}
+use Rattle.meaning.specs.Scalars.{Order, highestFirst, number, bitCount}
 use Rattle.meaning.specs.Digits.{nonzero, weight, top, listed, inSet, allIn, largest, entries}
 use Rattle.meaning.specs.Mof.{mof}
 use Rattle.meaning.specs.Windows.{windowWorth, shrink}
@@ -45,7 +45,7 @@ abbrev pub All : {A : Type 0} → (A → Type 0) → List A → Type 0
 All P [] = Unit {0}
 All P (x ∷ xs) = P x × All P xs
 
--- a string in some forms of one width; a string in every form at every width that the form has; or a string's tape, and its run at a modulus and a base
+-- of bytes that come highest first: a string in some forms of one width; a string in every form at every width that the form has; or a string's tape, and its run at a modulus and a base
 pub data Case : Type 0 where
   string : (forms : List ℕ) (w : ℕ) (s : List ℕ) (ds : List ℤ) → Case
   every : (s : List ℕ) (ds : List ℤ) → Case
@@ -101,12 +101,12 @@ abbrev pub ranTo : (w x doubled added : ℕ) → Ran
 ranTo w x doubled added = record { refusal = 0; place = 0; residue = x; doublings = doubled; additions = added; cost = costOf (entries (largest w)) }
 
 -- whatever is lent, if it is enough, recode answers these digits
-abbrev pub Answers : (f w : ℕ) (s : List ℕ) (ds : List ℤ) → Type 0
-Answers f w s ds = (digits₀ : List ℤ) (marks₀ : List ℕ) → bitCount s + 1 ≤ length digits₀ → markWords ≤ length marks₀ → (o : Outcome) → Keeps f w s digits₀ marks₀ o → Answered s ds digits₀ marks₀ o
+abbrev pub Answers : (f w : ℕ) (order : Order) (s : List ℕ) (ds : List ℤ) → Type 0
+Answers f w order s ds = (digits₀ : List ℤ) (marks₀ : List ℕ) → bitCount s + 1 ≤ length digits₀ → markWords ≤ length marks₀ → (o : Outcome) → Keeps f w order s digits₀ marks₀ o → Answered s ds digits₀ marks₀ o
 
 pub Holds : Case → Type 0
-Holds (string forms w s ds) = All (λ f. Answers f w s ds) forms
-Holds (every s ds) = (f w : ℕ) → Allowed f w → Answers f w s ds
+Holds (string forms w s ds) = All (λ f. Answers f w highestFirst s ds) forms
+Holds (every s ds) = (f w : ℕ) → Allowed f w → Answers f w highestFirst s ds
 Holds (steps w ds ws m g x doubled added multiples) =
     ((words₀ : List ℕ) → length ws ≤ length words₀ → (o : Taping.Outcome) → Taping.Keeps w ds words₀ o → Written ws doubled added words₀ o)
     × ((multiples₀ : List ℕ) → entries (largest w) ≤ length multiples₀ → (r : Ran) (ms : List ℕ) → Run w ws m g multiples₀ r ms → (r ≡ ranTo w x doubled added) × (ms ≡ multiples ++ drop (entries (largest w)) multiples₀))
@@ -134,21 +134,21 @@ pub string-formed : (f w N n : ℕ) → 2 ≤ w → N < 2 ^ n → 1 ≤ f → f 
 string-formed f w N n two small a b = let (k, e) = asked-one f a b in rw e (kind-is w N n two small k)
 
 -- an outcome that keeps the promise is the one that the form's string gives
-pub answered : (f w : ℕ) (s : List ℕ) (ds : List ℤ) → Allowed f w → length s ≤ 66 → number s < 2 ^ bitCount s → Form f w (number s) (bitCount s) ds
-    → Answers f w s ds
-answered f w s ds a l small F digits₀ marks₀ p q o K =
+pub answered : (f w : ℕ) (order : Order) (s : List ℕ) (ds : List ℤ) → Allowed f w → length s ≤ 66 → number order s < 2 ^ bitCount s → Form f w (number order s) (bitCount s) ds
+    → Answers f w order s ds
+answered f w order s ds a l small F digits₀ marks₀ p q o K =
     let want : Outcome = record { tally = record { refusal = 0; place = 0; weight = weight ds; top = top ds }; digits = ds ++ drop (bitCount s + 1) digits₀; marks = marksOf ds ++ drop markWords marks₀ } in
-    let W : Keeps f w s digits₀ marks₀ want = record {
+    let W : Keeps f w order s digits₀ marks₀ want = record {
       first = first-none (recodeRules f w s (length digits₀) (length marks₀)) (admits f w s (length digits₀) (length marks₀) a l p q);
       accepted = λ e. record { string = ds; formed = F; digits-are = refl; marks-are = refl; weight-is = refl; top-is = refl };
       refused = λ n. absurd (n refl);
     } in
-    let e = recode-determined f w s digits₀ marks₀ o want K W in
+    let e = recode-determined f w order s digits₀ marks₀ o want K W in
     record { tally-is = ap (λ (x : Outcome). x .tally) e; digits-are = ap (λ (x : Outcome). x .digits) e; marks-are = ap (λ (x : Outcome). x .marks) e }
 
 -- so for the string that is computed
-by-string : (f w : ℕ) (s : List ℕ) (ds : List ℤ) → Allowed f w → length s ≤ 66 → number s < 2 ^ bitCount s → ds ≡ stringBy f w (number s) (bitCount s) → Answers f w s ds
-by-string f w s ds a l small e = answered f w s ds a l small (rw e (string-formed f w (number s) (bitCount s) (a .wide .0) small (a .least) (a .most)))
+by-string : (f w : ℕ) (order : Order) (s : List ℕ) (ds : List ℤ) → Allowed f w → length s ≤ 66 → number order s < 2 ^ bitCount s → ds ≡ stringBy f w (number order s) (bitCount s) → Answers f w order s ds
+by-string f w order s ds a l small e = answered f w order s ds a l small (rw e (string-formed f w (number order s) (bitCount s) (a .wide .0) small (a .least) (a .most)))
 
 -- ---- a tape and its run
 -- what computes of such a case
@@ -211,20 +211,20 @@ module _ (w : ℕ) (ds : List ℤ) (ws : List ℕ) (m g x doubled added : ℕ) (
 -- ---- the theorem
 -- a case computes
 pub Fits : Case → Type 0
-Fits (string forms w s ds) = (length s ≤ 66) × (number s < 2 ^ bitCount s) × All (λ f. T (fine f w) × (ds ≡ stringBy f w (number s) (bitCount s))) forms
-Fits (every s ds) = (length s ≤ 66) × (number s < 2 ^ bitCount s) × ((f w : ℕ) → Allowed f w → ds ≡ stringBy f w (number s) (bitCount s))
+Fits (string forms w s ds) = (length s ≤ 66) × (number highestFirst s < 2 ^ bitCount s) × All (λ f. T (fine f w) × (ds ≡ stringBy f w (number highestFirst s) (bitCount s))) forms
+Fits (every s ds) = (length s ≤ 66) × (number highestFirst s < 2 ^ bitCount s) × ((f w : ℕ) → Allowed f w → ds ≡ stringBy f w (number highestFirst s) (bitCount s))
 Fits (steps w ds ws m g x doubled added multiples) = Stepped w ds ws m g x doubled added multiples
 
 -- and so it holds
 holds : (c : Case) → Fits c → Holds c
 unfolding Fits Holds
 holds (steps w ds ws m g x doubled added multiples) S = (taped w ds ws m g x doubled added multiples S, ran w ds ws m g x doubled added multiples S)
-holds (every s ds) (l, small, each) = λ f w a. by-string f w s ds a l small (each f w a)
+holds (every s ds) (l, small, each) = λ f w a. by-string f w highestFirst s ds a l small (each f w a)
 holds (string forms w s ds) (l, small, each) = go forms each
   where
-    go : (fs : List ℕ) → All (λ f. T (fine f w) × (ds ≡ stringBy f w (number s) (bitCount s))) fs → All (λ f. Answers f w s ds) fs
+    go : (fs : List ℕ) → All (λ f. T (fine f w) × (ds ≡ stringBy f w (number highestFirst s) (bitCount s))) fs → All (λ f. Answers f w highestFirst s ds) fs
     go [] h = tt
-    go (f ∷ fs) ((t, e), h) = (by-string f w s ds (allowed f w t) l small e, go fs h)
+    go (f ∷ fs) ((t, e), h) = (by-string f w highestFirst s ds (allowed f w t) l small e, go fs h)
 
 all-hold : (cs : List Case) → All Fits cs → All Holds cs
 all-hold [] h = tt
@@ -267,7 +267,7 @@ twelfth =
     }
 
 -- no bytes, in every form
-no-bytes : (f w : ℕ) → Allowed f w → pos 0 ∷ [] ≡ stringBy f w (number []) (bitCount [])
+no-bytes : (f w : ℕ) → Allowed f w → pos 0 ∷ [] ≡ stringBy f w (number highestFirst []) (bitCount [])
 unfolding asked stringOf number mof listed wnafFrom wnafDigit wnafNext wmof wmofUnder closestOf closestUnder windowWorth shrink trailingZeros
 no-bytes zero w a = absurd (omega (arith, a .least))
 no-bytes (suc zero) w a = refl

@@ -21,3 +21,4 @@ pub mod Stream
 pub mod Exported
 pub mod Cost
 pub mod Wider
+pub mod Orders

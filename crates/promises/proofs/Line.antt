@@ -11,7 +11,7 @@ use lib.Dec.{T}
 use lib.IntN.{ℤ}
 use lib.ListN.{length, take, drop, take-append-drop}
 use lib.Seq.{length-take-le}
-use Rattle.meaning.specs.Scalars.{number, bitCount}
+use Rattle.meaning.specs.Scalars.{highestFirst, number, bitCount}
 use Rattle.meaning.specs.Digits.{mostPlaces, Tally}
 use Rattle.meaning.specs.Refusals.{First}
 use Rattle.meaning.specs.Recoding.{markWords}
@@ -41,7 +41,7 @@ module _ (line : List ℕ) where
       go (yes z) =
           let (ds, f, e) = A .accepted z in
           let (es, g, h) = B .accepted (sym same ∙ z) in
-          let d = form-same (widthOf line) (number (scalarOf line)) (bitCount (scalarOf line)) (two (A .first) z) (formOf line) ds es f g in
+          let d = form-same (widthOf line) (number highestFirst (scalarOf line)) (bitCount (scalarOf line)) (two (A .first) z) (formOf line) ds es f g in
           e ∙ ap (λ x. written (acceptedBytes x) ++ (lineFeed ∷ [])) d ∙ sym h
       go (no n) = A .refused n ∙ ap (λ r. written (r ∷ []) ++ (lineFeed ∷ [])) same ∙ sym (B .refused (λ e. n (same ∙ e)))
 
@@ -94,7 +94,7 @@ module _ (line bytes₀ : List ℕ) (digits₀ : List ℤ) (marks₀ out₀ : Li
   -- what is worked in is the same
   same-work : (o o′ : Outcome) → Works o → Works o′ → (o .bytes ≡ o′ .bytes) × (o .digits ≡ o′ .digits) × (o .marks ≡ o′ .marks)
   same-work o o′ (a, W) (a′, W′) =
-      let e = recode-determined (formOf line) (widthOf line) (scalarOf line) digits₀ marks₀
+      let e = recode-determined (formOf line) (widthOf line) highestFirst (scalarOf line) digits₀ marks₀
       (record { tally = a; digits = o .digits; marks = o .marks }) (record { tally = a′; digits = o′ .digits; marks = o′ .marks }) (W .recoded) (W′ .recoded) in
       (W .bytes-are ∙ sym (W′ .bytes-are), ap (λ (x : Recoding.Outcome). x .digits) e, ap (λ (x : Recoding.Outcome). x .marks) e)
 

@@ -10,7 +10,7 @@ use lib.IntN.{ℤ, pos}
 use lib.ListN.{length, getD, take, drop, length-take, List·getD-append, List·getD-eq-default}
 use lib.Pow.{shr-shr}
 use lib.Seq.{getD-drop, take-at}
-use Rattle.meaning.specs.Scalars.{bitCount}
+use Rattle.meaning.specs.Scalars.{Order, bitCount}
 use Rattle.meaning.specs.Digits.{nonzero, weight}
 use Rattle.meaning.specs.Recoding.{markWords, marked, marksOf}
 use Rattle.forms.proofs.Strings.{nonzero-le, nonzero-one, nonzero-none}
@@ -51,7 +51,7 @@ marks-bit ds rest j h =
     ∙ marked-bit 64 (drop (64 * q) ds) (j % 64) (omega arith)
     ∙ ap nonzero (getD-drop (64 * q) ds (j % 64) (pos 0) ∙ ap (λ t. getD ds t (pos 0)) e)
 
-module _ {form w : ℕ} {s : List ℕ} {digits₀ : List ℤ} {marks₀ : List ℕ} (o : Recoding.Outcome) (K : Recoding.Keeps form w s digits₀ marks₀ o)
+module _ {form w : ℕ} {order : Order} {s : List ℕ} {digits₀ : List ℤ} {marks₀ : List ℕ} (o : Recoding.Outcome) (K : Recoding.Keeps form w order s digits₀ marks₀ o)
     (z : o .tally .refusal ≡ 0) (bytes : Bytes s) where
   abbrev ds : List ℤ
   ds = string o K z bytes

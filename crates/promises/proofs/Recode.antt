@@ -7,7 +7,7 @@ use native.Mathlib.Decide.{ℕ-discrete}
 use lib.IntN.{ℤ}
 use lib.ListN.{length, drop}
 use Rattle.laws.proofs.Choices.{not-below}
-use Rattle.meaning.specs.Scalars.{number, bitCount}
+use Rattle.meaning.specs.Scalars.{Order, number, bitCount}
 use Rattle.meaning.specs.Digits.{weight, top, Tally}
 use Rattle.meaning.specs.Refusals.{First}
 use Rattle.meaning.specs.Recoding.{markWords, marksOf, recodeRules, Recode}
@@ -21,42 +21,41 @@ pub record Outcome : Type 0 where
   pub marks : List ℕ
 
 -- the outcome satisfies the promise
-abbrev pub Keeps : (form w : ℕ) (s : List ℕ) (digits₀ : List ℤ) (marks₀ : List ℕ) → Outcome → Type 0
-Keeps form w s digits₀ marks₀ o = Recode form w s digits₀ marks₀ (o .tally) (o .digits) (o .marks)
+abbrev pub Keeps : (form w : ℕ) (order : Order) (s : List ℕ) (digits₀ : List ℤ) (marks₀ : List ℕ) → Outcome → Type 0
+Keeps form w order s digits₀ marks₀ o = Recode form w order s digits₀ marks₀ (o .tally) (o .digits) (o .marks)
 
 -- outcomes are equal by their fields
 made : (r p k t : ℕ) (ds : List ℤ) (ms : List ℕ) → Outcome
 made r p k t ds ms = record { tally = record { refusal = r; place = p; weight = k; top = t }; digits = ds; marks = ms }
 
-module _ (form w : ℕ) (s : List ℕ) where
-  -- an accepted width is at least 2
-  pub accepted-width : (places words p : ℕ) {r : ℕ} → First (recodeRules form w s places words) r p → r ≡ 0 → 2 ≤ w
-  accepted-width places words p {r} f z = not-below (λ l. clear (recodeRules form w s places words) tt r p f z .1 .0 (inl (inl l)))
+-- an accepted width is at least 2
+pub accepted-width : (form w : ℕ) (s : List ℕ) (places words p : ℕ) {r : ℕ} → First (recodeRules form w s places words) r p → r ≡ 0 → 2 ≤ w
+accepted-width form w s places words p {r} f z = not-below (λ l. clear (recodeRules form w s places words) tt r p f z .1 .0 (inl (inl l)))
 
-  module _ (digits₀ : List ℤ) (marks₀ : List ℕ) where
-    -- two outcomes that keep the promise are equal, accepted or refused
-    pub recode-determined : (o o′ : Outcome) → Keeps form w s digits₀ marks₀ o → Keeps form w s digits₀ marks₀ o′ → o ≡ o′
-    unfolding made
-    recode-determined o o′ K K′ = go (ℕ-discrete (o .tally .refusal) 0)
-      where
-        one : (o .tally .refusal ≡ o′ .tally .refusal) × (o .tally .place ≡ o′ .tally .place)
-        one = first-only (recodeRules form w s (length digits₀) (length marks₀)) (K .first) (K′ .first)
+module _ (form w : ℕ) (order : Order) (s : List ℕ) (digits₀ : List ℤ) (marks₀ : List ℕ) where
+  -- two outcomes that keep the promise are equal, accepted or refused
+  pub recode-determined : (o o′ : Outcome) → Keeps form w order s digits₀ marks₀ o → Keeps form w order s digits₀ marks₀ o′ → o ≡ o′
+  unfolding made
+  recode-determined o o′ K K′ = go (ℕ-discrete (o .tally .refusal) 0)
+    where
+      one : (o .tally .refusal ≡ o′ .tally .refusal) × (o .tally .place ≡ o′ .tally .place)
+      one = first-only (recodeRules form w s (length digits₀) (length marks₀)) (K .first) (K′ .first)
 
-        same : o .tally .weight ≡ o′ .tally .weight → o .tally .top ≡ o′ .tally .top → o .digits ≡ o′ .digits → o .marks ≡ o′ .marks
-            → made (o .tally .refusal) (o .tally .place) (o .tally .weight) (o .tally .top) (o .digits) (o .marks) ≡ made (o′ .tally .refusal) (o′ .tally .place) (o′ .tally .weight) (o′ .tally .top) (o′ .digits) (o′ .marks)
-        same k t d m = let (r, p) = one in cc
+      same : o .tally .weight ≡ o′ .tally .weight → o .tally .top ≡ o′ .tally .top → o .digits ≡ o′ .digits → o .marks ≡ o′ .marks
+          → made (o .tally .refusal) (o .tally .place) (o .tally .weight) (o .tally .top) (o .digits) (o .marks) ≡ made (o′ .tally .refusal) (o′ .tally .place) (o′ .tally .weight) (o′ .tally .top) (o′ .digits) (o′ .marks)
+      same k t d m = let (r, p) = one in cc
 
-        go : Dec (o .tally .refusal ≡ 0) → o ≡ o′
-        go (yes z) =
-            let A = K .accepted z in
-            let B = K′ .accepted (sym (one .0) ∙ z) in
-            let e = form-same w (number s) (bitCount s) (accepted-width (length digits₀) (length marks₀) (o .tally .place) (K .first) z) form (A .string) (B .string) (A .formed) (B .formed) in
-            same
-            (A .weight-is ∙ ap weight e ∙ sym (B .weight-is))
-            (A .top-is ∙ ap top e ∙ sym (B .top-is))
-            (A .digits-are ∙ ap (λ x. x ++ drop (bitCount s + 1) digits₀) e ∙ sym (B .digits-are))
-            (A .marks-are ∙ ap (λ x. marksOf x ++ drop markWords marks₀) e ∙ sym (B .marks-are))
-        go (no n) =
-            let A = K .refused n in
-            let B = K′ .refused (λ e. n (one .0 ∙ e)) in
-            same (A .weight-is ∙ sym (B .weight-is)) (A .top-is ∙ sym (B .top-is)) (A .digits-are ∙ sym (B .digits-are)) (A .marks-are ∙ sym (B .marks-are))
+      go : Dec (o .tally .refusal ≡ 0) → o ≡ o′
+      go (yes z) =
+          let A = K .accepted z in
+          let B = K′ .accepted (sym (one .0) ∙ z) in
+          let e = form-same w (number order s) (bitCount s) (accepted-width form w s (length digits₀) (length marks₀) (o .tally .place) (K .first) z) form (A .string) (B .string) (A .formed) (B .formed) in
+          same
+          (A .weight-is ∙ ap weight e ∙ sym (B .weight-is))
+          (A .top-is ∙ ap top e ∙ sym (B .top-is))
+          (A .digits-are ∙ ap (λ x. x ++ drop (bitCount s + 1) digits₀) e ∙ sym (B .digits-are))
+          (A .marks-are ∙ ap (λ x. marksOf x ++ drop markWords marks₀) e ∙ sym (B .marks-are))
+      go (no n) =
+          let A = K .refused n in
+          let B = K′ .refused (λ e. n (one .0 ∙ e)) in
+          same (A .weight-is ∙ sym (B .weight-is)) (A .top-is ∙ sym (B .top-is)) (A .digits-are ∙ sym (B .digits-are)) (A .marks-are ∙ sym (B .marks-are))

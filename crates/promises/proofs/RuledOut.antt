@@ -8,7 +8,7 @@ use native.Mathlib.Omega.{arith}
 use lib.Dec.{lit<, lit≤}
 use lib.IntN.{ℤ, pos, negsuc, natAbs}
 use lib.ListN.{length, getD, take, replicate, List·getD-eq-default}
-use Rattle.meaning.specs.Scalars.{number, bitCount}
+use Rattle.meaning.specs.Scalars.{Order, highestFirst, number, bitCount}
 use Rattle.meaning.specs.Digits.{worth, weight, nonzero, inSet, allIn, Tally, Apart}
 use Rattle.meaning.specs.Refusals.{Rule, First}
 use Rattle.meaning.specs.Forms.{asked, Has}
@@ -39,15 +39,15 @@ use Rattle.promises.proofs.Instances.{recode-kept-by, check-kept-by, no
 -- ---- recode
 -- an outcome for every input, a scalar of bytes among it, which keeps the promise
 pub record Recoder : Type 0 where
-  pub call : (form w : ℕ) (s : List ℕ) → Bytes s → (digits₀ : List ℤ) (marks₀ : List ℕ) → Recoding.Outcome
-  pub keeps : (form w : ℕ) (s : List ℕ) (b : Bytes s) (digits₀ : List ℤ) (marks₀ : List ℕ) → Recoding.Keeps form w s digits₀ marks₀ (call form w s b digits₀ marks₀)
+  pub call : (form w : ℕ) (order : Order) (s : List ℕ) → Bytes s → (digits₀ : List ℤ) (marks₀ : List ℕ) → Recoding.Outcome
+  pub keeps : (form w : ℕ) (order : Order) (s : List ℕ) (b : Bytes s) (digits₀ : List ℤ) (marks₀ : List ℕ) → Recoding.Keeps form w order s digits₀ marks₀ (call form w order s b digits₀ marks₀)
 
 -- there is one; and the real call is one, since what it leaves at any input is what this one leaves
 pub recoder : Recoder
-recoder = record { call = λ form w s b digits₀ marks₀. recode-kept-by form w s b digits₀ marks₀ .0; keeps = λ form w s b digits₀ marks₀. recode-kept-by form w s b digits₀ marks₀ .1 }
+recoder = record { call = λ form w order s b digits₀ marks₀. recode-kept-by form w order s b digits₀ marks₀ .0; keeps = λ form w order s b digits₀ marks₀. recode-kept-by form w order s b digits₀ marks₀ .1 }
 
-pub recode-real : (form w : ℕ) (s : List ℕ) (b : Bytes s) (digits₀ : List ℤ) (marks₀ : List ℕ) (o : Recoding.Outcome) → Recoding.Keeps form w s digits₀ marks₀ o → o ≡ recoder .call form w s b digits₀ marks₀
-recode-real form w s b digits₀ marks₀ o K = recode-determined form w s digits₀ marks₀ o _ K (recoder .keeps form w s b digits₀ marks₀)
+pub recode-real : (form w : ℕ) (order : Order) (s : List ℕ) (b : Bytes s) (digits₀ : List ℤ) (marks₀ : List ℕ) (o : Recoding.Outcome) → Recoding.Keeps form w order s digits₀ marks₀ o → o ≡ recoder .call form w order s b digits₀ marks₀
+recode-real form w order s b digits₀ marks₀ o K = recode-determined form w order s digits₀ marks₀ o _ K (recoder .keeps form w order s b digits₀ marks₀)
 
 -- buffers that are lent: nine zeros each
 digits-lent : List ℤ
@@ -69,14 +69,14 @@ zero-bytes (suc n) (suc i) = zero-bytes n i
 module _ (c : Recoder) where
   -- what it does with a byte as wNAF at width 2
   of-byte : (x : ℕ) → x < 256 → Recoding.Outcome
-  of-byte x h = c .call 2 2 (x ∷ []) (one-byte x h) digits-lent marks-lent
+  of-byte x h = c .call 2 2 highestFirst (x ∷ []) (one-byte x h) digits-lent marks-lent
 
-  byte-answer : (x : ℕ) (h : x < 256) → Answered (x ∷ []) (wnafFrom 2 9 (number (x ∷ []))) digits-lent marks-lent (of-byte x h)
+  byte-answer : (x : ℕ) (h : x < 256) → Answered (x ∷ []) (wnafFrom 2 9 (number highestFirst (x ∷ []))) digits-lent marks-lent (of-byte x h)
   unfolding digits-lent marks-lent of-byte asked Has
   byte-answer x h =
-      let small = number-lt (x ∷ []) (one-byte x h) in
-      answered 2 2 (x ∷ []) (wnafFrom 2 9 (number (x ∷ []))) (allowed 2 2 tt) (lit≤ tt) small (wnaf-is 2 (number (x ∷ [])) 8 (lit≤ tt) small) digits-lent marks-lent (lit≤ tt) (lit≤ tt)
-      (of-byte x h) (c .keeps 2 2 (x ∷ []) (one-byte x h) digits-lent marks-lent)
+      let small = number-lt highestFirst (x ∷ []) (one-byte x h) in
+      answered 2 2 highestFirst (x ∷ []) (wnafFrom 2 9 (number highestFirst (x ∷ []))) (allowed 2 2 tt) (lit≤ tt) small (wnaf-is 2 (number highestFirst (x ∷ [])) 8 (lit≤ tt) small) digits-lent marks-lent (lit≤ tt) (lit≤ tt)
+      (of-byte x h) (c .keeps 2 2 highestFirst (x ∷ []) (one-byte x h) digits-lent marks-lent)
 
   -- it is accepted
   byte-accepted : (x : ℕ) (h : x < 256) → of-byte x h .tally .refusal ≡ 0
@@ -96,17 +96,17 @@ module _ (c : Recoder) where
   two-digit = ap lowest-digit (byte-answer 2 (lit< tt) .digits-are)
 
   -- refusing everything
-  pub recode-not-refusing : ((form w : ℕ) (s : List ℕ) (b : Bytes s) (digits₀ : List ℤ) (marks₀ : List ℕ) → c .call form w s b digits₀ marks₀ .tally .refusal ≢ 0) → ⊥
+  pub recode-not-refusing : ((form w : ℕ) (order : Order) (s : List ℕ) (b : Bytes s) (digits₀ : List ℤ) (marks₀ : List ℕ) → c .call form w order s b digits₀ marks₀ .tally .refusal ≢ 0) → ⊥
   unfolding of-byte
-  recode-not-refusing r = r 2 2 (1 ∷ []) (one-byte 1 (lit< tt)) digits-lent marks-lent (byte-accepted 1 (lit< tt))
+  recode-not-refusing r = r 2 2 highestFirst (1 ∷ []) (one-byte 1 (lit< tt)) digits-lent marks-lent (byte-accepted 1 (lit< tt))
 
   -- one fixed string for all scalars, for each form, width and bit count
   pub recode-not-fixed : (fixed : (form w n : ℕ) → List ℤ)
-      → ((form w : ℕ) (s : List ℕ) (b : Bytes s) (digits₀ : List ℤ) (marks₀ : List ℕ) → c .call form w s b digits₀ marks₀ .tally .refusal ≡ 0 → take (bitCount s + 1) (c .call form w s b digits₀ marks₀ .digits) ≡ fixed form w (bitCount s)) → ⊥
+      → ((form w : ℕ) (order : Order) (s : List ℕ) (b : Bytes s) (digits₀ : List ℤ) (marks₀ : List ℕ) → c .call form w order s b digits₀ marks₀ .tally .refusal ≡ 0 → take (bitCount s + 1) (c .call form w order s b digits₀ marks₀ .digits) ≡ fixed form w (bitCount s)) → ⊥
   unfolding lowest-digit of-byte
   recode-not-fixed fixed r =
-      let one = r 2 2 (1 ∷ []) (one-byte 1 (lit< tt)) digits-lent marks-lent (byte-accepted 1 (lit< tt)) in
-      let two = r 2 2 (2 ∷ []) (one-byte 2 (lit< tt)) digits-lent marks-lent (byte-accepted 2 (lit< tt)) in
+      let one = r 2 2 highestFirst (1 ∷ []) (one-byte 1 (lit< tt)) digits-lent marks-lent (byte-accepted 1 (lit< tt)) in
+      let two = r 2 2 highestFirst (2 ∷ []) (one-byte 2 (lit< tt)) digits-lent marks-lent (byte-accepted 2 (lit< tt)) in
       let z : _≡_ {A = ℕ} 1 0 = sym one-digit ∙ first-of (of-byte 1 (lit< tt) .digits) ∙ ap lowest-digit (one ∙ sym two) ∙ sym (first-of (of-byte 2 (lit< tt) .digits)) ∙ two-digit in
       omega arith
     where
@@ -115,23 +115,23 @@ module _ (c : Recoder) where
       first-of (d ∷ ds) = refl
 
   -- not writing at all
-  pub recode-not-idle : ((form w : ℕ) (s : List ℕ) (b : Bytes s) (digits₀ : List ℤ) (marks₀ : List ℕ) → c .call form w s b digits₀ marks₀ .digits ≡ digits₀) → ⊥
+  pub recode-not-idle : ((form w : ℕ) (order : Order) (s : List ℕ) (b : Bytes s) (digits₀ : List ℤ) (marks₀ : List ℕ) → c .call form w order s b digits₀ marks₀ .digits ≡ digits₀) → ⊥
   unfolding lowest-digit digits-lent of-byte
-  recode-not-idle r = let z : _≡_ {A = ℕ} 0 1 = sym (ap lowest-digit (r 2 2 (1 ∷ []) (one-byte 1 (lit< tt)) digits-lent marks-lent)) ∙ one-digit in omega arith
+  recode-not-idle r = let z : _≡_ {A = ℕ} 0 1 = sym (ap lowest-digit (r 2 2 highestFirst (1 ∷ []) (one-byte 1 (lit< tt)) digits-lent marks-lent)) ∙ one-digit in omega arith
 
   -- writing on a refusal
-  pub recode-not-writing : (form w : ℕ) (s : List ℕ) (b : Bytes s) (digits₀ : List ℤ) (marks₀ : List ℕ)
-      → c .call form w s b digits₀ marks₀ .tally .refusal ≢ 0 → (c .call form w s b digits₀ marks₀ .digits ≢ digits₀) ⊎ (c .call form w s b digits₀ marks₀ .marks ≢ marks₀) → ⊥
-  recode-not-writing form w s b digits₀ marks₀ n (inl h) = h (c .keeps form w s b digits₀ marks₀ .refused n .digits-are)
-  recode-not-writing form w s b digits₀ marks₀ n (inr h) = h (c .keeps form w s b digits₀ marks₀ .refused n .marks-are)
+  pub recode-not-writing : (form w : ℕ) (order : Order) (s : List ℕ) (b : Bytes s) (digits₀ : List ℤ) (marks₀ : List ℕ)
+      → c .call form w order s b digits₀ marks₀ .tally .refusal ≢ 0 → (c .call form w order s b digits₀ marks₀ .digits ≢ digits₀) ⊎ (c .call form w order s b digits₀ marks₀ .marks ≢ marks₀) → ⊥
+  recode-not-writing form w order s b digits₀ marks₀ n (inl h) = h (c .keeps form w order s b digits₀ marks₀ .refused n .digits-are)
+  recode-not-writing form w order s b digits₀ marks₀ n (inr h) = h (c .keeps form w order s b digits₀ marks₀ .refused n .marks-are)
 
   -- a long scalar refused before a bad width
-  pub recode-not-swapped : ((form w : ℕ) (s : List ℕ) (b : Bytes s) (digits₀ : List ℤ) (marks₀ : List ℕ) → 66 < length s → c .call form w s b digits₀ marks₀ .tally .refusal ≡ 3) → ⊥
+  pub recode-not-swapped : ((form w : ℕ) (order : Order) (s : List ℕ) (b : Bytes s) (digits₀ : List ℤ) (marks₀ : List ℕ) → 66 < length s → c .call form w order s b digits₀ marks₀ .tally .refusal ≡ 3) → ⊥
   recode-not-swapped r =
       let s : List ℕ = replicate 67 0 in
-      let K = c .keeps 2 9 s (zero-bytes 67) [] [] in
+      let K = c .keeps 2 9 highestFirst s (zero-bytes 67) [] [] in
       let e = first-only (recodeRules 2 9 s 0 0) (K .first) (first-at (recodeRules 2 9 s 0 0) 1 0 (⊎-elim (λ l. omega arith) (λ l. omega arith), (inl (inr (lit< tt)), refl))) .0 in
-      let z : _≡_ {A = ℕ} 3 2 = sym (r 2 9 s (zero-bytes 67) [] [] (lit< tt)) ∙ e in
+      let z : _≡_ {A = ℕ} 3 2 = sym (r 2 9 highestFirst s (zero-bytes 67) [] [] (lit< tt)) ∙ e in
       omega arith
 
 -- ---- tape and run
@@ -246,50 +246,50 @@ search-not-refusing call keeps r =
 
 -- ---- the checks
 -- the string 1 is worth the byte 1, and 2 it is not
-one-legal : Legal 2 (1 ∷ []) (pos 1 ∷ [])
+one-legal : Legal 2 highestFirst (1 ∷ []) (pos 1 ∷ [])
 unfolding allIn inSet worth number
 one-legal = record { wide = (lit≤ tt, lit≤ tt); few = lit≤ tt; short = lit≤ tt; digits = tt; worth-is = refl }
 
 one-apart : Apart 2 (pos 1 ∷ [])
 one-apart = record { one-of = λ i j l m h. List·getD-eq-default (pos 1 ∷ []) (pos 0) {n = j} (omega arith) }
 
-not-two : Legal 2 (2 ∷ []) (pos 1 ∷ []) → ⊥
+not-two : Legal 2 highestFirst (2 ∷ []) (pos 1 ∷ []) → ⊥
 unfolding worth number
 not-two L = let z : _≡_ {A = ℕ} 1 2 = ap natAbs (L .worth-is) in omega arith
 
 -- a verdict for every input, which keeps the promise of a check by the given rules
-pub record Checker (rules : (w : ℕ) (s : List ℕ) (ds : List ℤ) → List Rule) : Type 0 where
-  pub call : (w : ℕ) (s : List ℕ) (ds : List ℤ) → Tally
-  pub keeps : (w : ℕ) (s : List ℕ) (ds : List ℤ) → Checking.Keeps (rules w s ds) ds (call w s ds)
+pub record Checker (rules : (w : ℕ) (order : Order) (s : List ℕ) (ds : List ℤ) → List Rule) : Type 0 where
+  pub call : (w : ℕ) (order : Order) (s : List ℕ) (ds : List ℤ) → Tally
+  pub keeps : (w : ℕ) (order : Order) (s : List ℕ) (ds : List ℤ) → Checking.Keeps (rules w order s ds) ds (call w order s ds)
 
 -- there is one of either kind
 pub checker : Checker checkRules
-checker = record { call = λ w s ds. check-kept-by w s ds .0; keeps = λ w s ds. check-kept-by w s ds .1 }
+checker = record { call = λ w order s ds. check-kept-by w order s ds .0; keeps = λ w order s ds. check-kept-by w order s ds .1 }
 
 pub nonadjacent-checker : Checker nonadjacentRules
-nonadjacent-checker = record { call = λ w s ds. nonadjacent-kept-by w s ds .0; keeps = λ w s ds. nonadjacent-kept-by w s ds .1 }
+nonadjacent-checker = record { call = λ w order s ds. nonadjacent-kept-by w order s ds .0; keeps = λ w order s ds. nonadjacent-kept-by w order s ds .1 }
 
 -- refusing everything
-pub check-not-refusing : (c : Checker checkRules) → ((w : ℕ) (s : List ℕ) (ds : List ℤ) → c .call w s ds .refusal ≢ 0) → ⊥
-check-not-refusing c r = r 2 (1 ∷ []) (pos 1 ∷ []) (ap (λ (v : Tally). v .refusal) (check-yes-only 2 (1 ∷ []) (pos 1 ∷ []) one-legal _ (c .keeps 2 (1 ∷ []) (pos 1 ∷ []))))
+pub check-not-refusing : (c : Checker checkRules) → ((w : ℕ) (order : Order) (s : List ℕ) (ds : List ℤ) → c .call w order s ds .refusal ≢ 0) → ⊥
+check-not-refusing c r = r 2 highestFirst (1 ∷ []) (pos 1 ∷ []) (ap (λ (v : Tally). v .refusal) (check-yes-only 2 highestFirst (1 ∷ []) (pos 1 ∷ []) one-legal _ (c .keeps 2 highestFirst (1 ∷ []) (pos 1 ∷ []))))
 
-pub nonadjacent-not-refusing : (c : Checker nonadjacentRules) → ((w : ℕ) (s : List ℕ) (ds : List ℤ) → c .call w s ds .refusal ≢ 0) → ⊥
+pub nonadjacent-not-refusing : (c : Checker nonadjacentRules) → ((w : ℕ) (order : Order) (s : List ℕ) (ds : List ℤ) → c .call w order s ds .refusal ≢ 0) → ⊥
 nonadjacent-not-refusing c r =
-    r 2 (1 ∷ []) (pos 1 ∷ []) (ap (λ (v : Tally). v .refusal) (nonadjacent-yes-only 2 (1 ∷ []) (pos 1 ∷ []) one-legal one-apart _ (c .keeps 2 (1 ∷ []) (pos 1 ∷ []))))
+    r 2 highestFirst (1 ∷ []) (pos 1 ∷ []) (ap (λ (v : Tally). v .refusal) (nonadjacent-yes-only 2 highestFirst (1 ∷ []) (pos 1 ∷ []) one-legal one-apart _ (c .keeps 2 highestFirst (1 ∷ []) (pos 1 ∷ []))))
 
 -- saying yes whatever the scalar is
-pub check-not-blind : (c : Checker checkRules) → ((w : ℕ) (s t : List ℕ) (ds : List ℤ) → length s ≡ length t → c .call w s ds .refusal ≡ 0 → c .call w t ds .refusal ≡ 0) → ⊥
+pub check-not-blind : (c : Checker checkRules) → ((w : ℕ) (order : Order) (s t : List ℕ) (ds : List ℤ) → length s ≡ length t → c .call w order s ds .refusal ≡ 0 → c .call w order t ds .refusal ≡ 0) → ⊥
 check-not-blind c r =
-    let one = ap (λ (v : Tally). v .refusal) (check-yes-only 2 (1 ∷ []) (pos 1 ∷ []) one-legal _ (c .keeps 2 (1 ∷ []) (pos 1 ∷ []))) in
-    not-two (check-yes 2 (2 ∷ []) (pos 1 ∷ []) _ (c .keeps 2 (2 ∷ []) (pos 1 ∷ [])) (r 2 (1 ∷ []) (2 ∷ []) (pos 1 ∷ []) refl one))
+    let one = ap (λ (v : Tally). v .refusal) (check-yes-only 2 highestFirst (1 ∷ []) (pos 1 ∷ []) one-legal _ (c .keeps 2 highestFirst (1 ∷ []) (pos 1 ∷ []))) in
+    not-two (check-yes 2 highestFirst (2 ∷ []) (pos 1 ∷ []) _ (c .keeps 2 highestFirst (2 ∷ []) (pos 1 ∷ [])) (r 2 highestFirst (1 ∷ []) (2 ∷ []) (pos 1 ∷ []) refl one))
 
 -- the string's length looked at before the scalar's
-pub check-not-swapped : (c : Checker checkRules) → ((w : ℕ) (s : List ℕ) (ds : List ℤ) → 529 < length ds → c .call w s ds .refusal ≡ 7) → ⊥
+pub check-not-swapped : (c : Checker checkRules) → ((w : ℕ) (order : Order) (s : List ℕ) (ds : List ℤ) → 529 < length ds → c .call w order s ds .refusal ≡ 7) → ⊥
 check-not-swapped c r =
     let s : List ℕ = replicate 67 0 in
     let ds : List ℤ = replicate 530 (pos 0) in
-    let e = first-only (checkRules 2 s ds) (c .keeps 2 s ds .first) (first-at (checkRules 2 s ds) 1 0 (width-fine (lit≤ tt, lit≤ tt), (lit< tt, refl))) .0 in
-    let z : _≡_ {A = ℕ} 7 3 = sym (r 2 s ds (lit< tt)) ∙ e in
+    let e = first-only (checkRules 2 highestFirst s ds) (c .keeps 2 highestFirst s ds .first) (first-at (checkRules 2 highestFirst s ds) 1 0 (width-fine (lit≤ tt, lit≤ tt), (lit< tt, refl))) .0 in
+    let z : _≡_ {A = ℕ} 7 3 = sym (r 2 highestFirst s ds (lit< tt)) ∙ e in
     omega arith
 
 -- ---- the line

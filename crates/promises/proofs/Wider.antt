@@ -6,7 +6,7 @@ use Prim.Native.Nat.{ℕ, _+_, _≤_}
 use native.Mathlib.Omega.{arith}
 use lib.IntN.{ℤ}
 use lib.ListN.{length, take}
-use Rattle.meaning.specs.Scalars.{number, bitCount}
+use Rattle.meaning.specs.Scalars.{Order, number, bitCount}
 use Rattle.meaning.specs.Digits.{weight}
 use Rattle.forms.proofs.Forms.{form-wider}
 use Rattle.scalar.proofs.Bytes.{Bytes, number-lt}
@@ -16,8 +16,8 @@ use Rattle.promises.proofs.Tape as Taping
 use Rattle.promises.proofs.Demand2.{recoded-string}
 use Rattle.promises.proofs.Demand3.{taped-additions}
 
-module _ {form w v : ℕ} {s : List ℕ} {digits₀ digits₁ : List ℤ} {marks₀ marks₁ : List ℕ} (o p : Recoding.Outcome)
-    (K : Recoding.Keeps form w s digits₀ marks₀ o) (L : Recoding.Keeps form v s digits₁ marks₁ p) (z : o .tally .refusal ≡ 0) (y : p .tally .refusal ≡ 0)
+module _ {form w v : ℕ} {order : Order} {s : List ℕ} {digits₀ digits₁ : List ℤ} {marks₀ marks₁ : List ℕ} (o p : Recoding.Outcome)
+    (K : Recoding.Keeps form w order s digits₀ marks₀ o) (L : Recoding.Keeps form v order s digits₁ marks₁ p) (z : o .tally .refusal ≡ 0) (y : p .tally .refusal ≡ 0)
     (bytes : Bytes s) (light : 2 ≤ form) (more : w ≤ v) where
   -- the weights do not rise
   pub recoded-wider : p .tally .weight ≤ o .tally .weight
@@ -25,7 +25,7 @@ module _ {form w v : ℕ} {s : List ℕ} {digits₀ digits₁ : List ℤ} {marks
       let A = K .accepted z in
       let B = L .accepted y in
       let two = accepted-width form w s (length digits₀) (length marks₀) (o .tally .place) (K .first) z in
-      omega (arith, A .weight-is, B .weight-is, form-wider w v (number s) (bitCount s) two more (number-lt s bytes) form light (A .string) (B .string) (A .formed) (B .formed))
+      omega (arith, A .weight-is, B .weight-is, form-wider w v (number order s) (bitCount s) two more (number-lt order s bytes) form light (A .string) (B .string) (A .formed) (B .formed))
 
   -- and the additions of the two strings' tapes do not either
   pub taped-wider : {words₀ words₁ : List ℕ} (t u : Taping.Outcome)

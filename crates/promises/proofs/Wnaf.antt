@@ -9,7 +9,7 @@ use lib.Dec.{T}
 use lib.IntN.{ℤ, pos, natAbs, _+ℤ_, _*ℤ_, +ℤ-idl}
 use lib.ListN.{getD, drop}
 use Rattle.laws.proofs.Integers.{abs-mul}
-use Rattle.meaning.specs.Scalars.{number, bitCount}
+use Rattle.meaning.specs.Scalars.{Order, number, bitCount}
 use Rattle.meaning.specs.Digits.{largest, allIn, worth, Apart}
 use Rattle.meaning.specs.Wnaf as Meaning
 use Rattle.meaning.specs.Forms.{Has, asked}
@@ -29,17 +29,17 @@ odd-some [] (suc j) h e = omega arith
 odd-some (d ∷ ds) zero h e = omega (arith, ap (λ x. natAbs (x +ℤ pos 2 *ℤ worth ds)) e ∙ ap natAbs (+ℤ-idl (pos 2 *ℤ worth ds)), abs-mul 2 (worth ds))
 odd-some (d ∷ ds) (suc j) h e = odd-some ds j h e
 
-module _ {w : ℕ} {s : List ℕ} {digits₀ : List ℤ} {marks₀ : List ℕ} (o : Recoding.Outcome) (K : Recoding.Keeps 2 w s digits₀ marks₀ o)
+module _ {w : ℕ} {order : Order} {s : List ℕ} {digits₀ : List ℤ} {marks₀ : List ℕ} (o : Recoding.Outcome) (K : Recoding.Keeps 2 w order s digits₀ marks₀ o)
     (z : o .tally .refusal ≡ 0) (bytes : Bytes s) where
   abbrev ds : List ℤ
   ds = string o K z bytes
 
-  form : Meaning.Wnaf w (number s) (bitCount s) ds
+  form : Meaning.Wnaf w (number order s) (bitCount s) ds
   unfolding asked Has
   form = recoded-form o K z bytes
 
   -- any other such string has the same digit at every place
-  pub wnaf-only : (es : List ℤ) → T (allIn (largest w) es) → worth es ≡ pos (number s) → Apart w es → (j : ℕ) → getD es j (pos 0) ≡ getD ds j (pos 0)
+  pub wnaf-only : (es : List ℤ) → T (allIn (largest w) es) → worth es ≡ pos (number order s) → Apart w es → (j : ℕ) → getD es j (pos 0) ≡ getD ds j (pos 0)
   wnaf-only es t e a = apart-only (recoded-legal o K z bytes .wide .0) es ds t (form .in-set) a (form .apart) (e ∙ sym (form .worth-is))
 
   -- what remains at place j is what the places from j up are worth; where that is odd, the digit is its signed residue

@@ -9,7 +9,7 @@ use lib.Count.{trailing-le}
 use lib.Dec.{T, eqb, leb, ltb, ltb→lt, leb→le}
 use lib.IntN.{ℤ, natAbs}
 use Rattle.laws.proofs.Choices.{either, and-both}
-use Rattle.meaning.specs.Scalars.{number, bit, below}
+use Rattle.meaning.specs.Scalars.{Order, number, bit, below}
 use Rattle.meaning.specs.Digits.{leastWidth, mostWidth, mostPlaces}
 use Rattle.meaning.specs.Wmof.{windowAt}
 use Rattle.meaning.specs.Reading.{Holds}
@@ -25,11 +25,11 @@ pub record Few (B m p f : ℕ) : Type 0 where
   pub floor-le : f ≤ B
 
 -- ---- the start
-pub starts-few : {w : ℕ} {s : List ℕ} {q : State} → After w s 0 q → Few mostPlaces (q .place) (q .spot) (q .floor)
+pub starts-few : {w : ℕ} {o : Order} {s : List ℕ} {q : State} → After w o s 0 q → Few mostPlaces (q .place) (q .spot) (q .floor)
 unfolding after
-starts-few {w} {s} {q} A = subst (λ x. Few mostPlaces (x .place) (x .spot) (x .floor)) (sym (A .state-is)) (go (q .refusal) (A .holds))
+starts-few {w} {o} {s} {q} A = subst (λ x. Few mostPlaces (x .place) (x .spot) (x .floor)) (sym (A .state-is)) (go (q .refusal) (A .holds))
   where
-    go : (r : ℕ) → Holds w s r → let x = starting r w s in Few mostPlaces (x .place) (x .spot) (x .floor)
+    go : (r : ℕ) → Holds w s r → let x = starting r w o s in Few mostPlaces (x .place) (x .spot) (x .floor)
     go zero h = let short = held-short w s h in record { place-le = omega arith; spot-le = omega arith; floor-le = omega arith }
     go (suc r) h = record { place-le = omega arith; spot-le = omega arith; floor-le = omega arith }
 
@@ -54,9 +54,9 @@ module _ (B : ℕ) (most : mostPlaces ≤ B) where
       let (some, few) = and-both (ltb 0 m) (leb m mostPlaces) places in
       omega (arith, ltb→lt 0 m some, leb→le m mostPlaces few)
 
-  pub takes-few : (s : List ℕ) (m w : ℕ) (d : ℤ) (p f : ℕ) → Few B m p f → let t = taken s m w d p f in Few B (t .place) (t .spot) (t .floor)
+  pub takes-few : (o : Order) (s : List ℕ) (m w : ℕ) (d : ℤ) (p f : ℕ) → Few B m p f → let t = taken o s m w d p f in Few B (t .place) (t .spot) (t .floor)
   unfolding fresh taken
-  takes-few s m w d p f q =
+  takes-few o s m w d p f q =
       let pass : Few B (m - 1) p f = record { place-le = omega (arith, q .place-le); spot-le = q .spot-le; floor-le = q .floor-le } in
       let end : Few B 0 p f = record { place-le = omega arith; spot-le = q .spot-le; floor-le = q .floor-le } in
-      either Leaves (ltb f m) (λ _. pass) (λ _. either Leaves (openable m w) (λ t. opened-few w (number s) (m - 1) (openable-few m w t)) (λ _. end))
+      either Leaves (ltb f m) (λ _. pass) (λ _. either Leaves (openable m w) (λ t. opened-few w (number o s) (m - 1) (openable-few m w t)) (λ _. end))

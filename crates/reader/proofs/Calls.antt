@@ -9,10 +9,11 @@ use native.Mathlib.Omega.{arith}
 use denote.Ref.{RefT, now}
 use lib.IntN.{ℤ}
 use lib.ListN.{length, length-reverse}
-use Rattle.meaning.specs.Scalars.{number, bitCount}
+use Rattle.meaning.specs.Scalars.{Order, number, codeOf, orderOf, bitCount}
 use Rattle.meaning.specs.Wmof.{wmof}
 use Rattle.meaning.specs.Reading.{Holds, sequence, done, readAt}
 use Rattle.forms.proofs.Refusals.{kept-lent}
+use Rattle.scalar.proofs.Orders.{code-tells}
 use Rattle.reader.specs.declared.Next.{Next}
 use Rattle.reader.specs.declared.Next.the-variants.{Digit, Done}
 use Rattle.reader.specs.declared.Reader.{Reader}
@@ -26,8 +27,9 @@ use Rattle.reader.proofs.Stands.{given, given-done, size, reads-all}
 
 -- ---- document 01's sequence
 -- it has n + 1 digits
-pub sequence-length : (w : ℕ) (s : List ℕ) → Holds w s 0 → length (sequence 0 w s) ≡ bitCount s + 1
-sequence-length w s h = length-reverse (wmof w (number s) (bitCount s)) ∙ size w s (held-wide w s h) (held-short w s h)
+pub sequence-length : (w : ℕ) (o : Order) (s : List ℕ) → Holds w s 0 → length (sequence 0 w o s) ≡ bitCount s + 1
+sequence-length w o s h =
+    length-reverse (wmof w (number o s) (bitCount s)) ∙ ap (λ p. length (wmof w (number p s) (bitCount s))) (sym (code-tells o)) ∙ size w (codeOf o) s (held-wide w s h) (held-short w s h)
 
 -- past its end there is nothing
 pub read-past : (ds : List ℤ) (k : ℕ) → length ds ≤ k → readAt ds k ≡ done
@@ -37,30 +39,35 @@ read-past (d ∷ ds) zero h = absurd (omega arith)
 read-past (d ∷ ds) (suc k) h = read-past ds k (omega arith)
 
 -- ---- states
-reads-at : (r w : ℕ) (s : List ℕ) → Holds w s r → (k : ℕ) → given s (starting r w s) k ≡ readAt (sequence r w s) k
+reads-at : (r w : ℕ) (o : Order) (s : List ℕ) → Holds w s r → (k : ℕ) → given s (starting r w o s) k ≡ readAt (sequence r w o s) k
 unfolding readAt
-reads-at zero w s h k = reads-all w s (held-wide w s h) (held-short w s h) k
-reads-at (suc r) w s h k = given-done s (starting (suc r) w s) refl k
+reads-at zero w o s h k = reads-all w (codeOf o) s (held-wide w s h) (held-short w s h) k ∙ ap (λ p. readAt (sequence 0 w p s) k) (code-tells o)
+reads-at (suc r) w o s h k = given-done s (starting (suc r) w o s) refl k
 
 -- a state m places lower
 abbrev lowered : State → (m : ℕ) → State
-lowered q m = record { place = q .place - m; width = q .width; pending = q .pending; spot = q .spot; floor = q .floor; refusal = q .refusal }
+lowered q m = record { place = q .place - m; width = q .width; pending = q .pending; spot = q .spot; floor = q .floor; refusal = q .refusal; order = q .order }
 
-module _ {w : ℕ} {s : List ℕ} where
+module _ {w : ℕ} {o : Order} {s : List ℕ} where
+  -- the order that a new reader's byte tells
+  pub after-order : {q : State} → After w o s 0 q → orderOf (q .order) ≡ o
+  unfolding after
+  after-order A = ap (λ x. orderOf (x .order)) (A .state-is) ∙ code-tells o
+
   -- a call more
-  pub after-call : {k : ℕ} {q : State} → After w s k q → After w s (suc k) (moved q (call s q))
+  pub after-call : {k : ℕ} {q : State} → After w o s k q → After w o s (suc k) (moved q (call s q))
   unfolding after
   after-call A = record { holds = A .holds; state-is = ap (λ x. moved x (call s x)) (A .state-is) }
 
   -- what it gives
-  pub after-reads : {k : ℕ} {q : State} → After w s k q → readOf (call s q .next) ≡ readAt (sequence (q .refusal) w s) k
-  after-reads {k} {q} A = ap (λ x. readOf (call s x .next)) (A .state-is) ∙ reads-at (q .refusal) w s (A .holds) k
+  pub after-reads : {k : ℕ} {q : State} → After w o s k q → readOf (call s q .next) ≡ readAt (sequence (q .refusal) w o s) k
+  after-reads {k} {q} A = ap (λ x. readOf (call s x .next)) (A .state-is) ∙ reads-at (q .refusal) w o s (A .holds) k
 
   -- m calls more inside a window, which change nothing but the place
-  pub after-lowered : {k : ℕ} {q : State} (m : ℕ) → m ≤ q .place - q .floor → After w s k q → After w s (k + m) (lowered q m)
+  pub after-lowered : {k : ℕ} {q : State} (m : ℕ) → m ≤ q .place - q .floor → After w o s k q → After w o s (k + m) (lowered q m)
   after-lowered zero h A = rw (add-zero, sub-zero) A
   after-lowered {k} {q} (suc m) h A =
-      let t = takes-inside s (q .place - m) (q .width) (q .pending) (q .spot) (q .floor) (omega arith) in
+      let t = takes-inside (orderOf (q .order)) s (q .place - m) (q .width) (q .pending) (q .spot) (q .floor) (omega arith) in
       let e : q .place - m - 1 ≡ q .place - suc m = omega arith in
       rw (add-suc, ← e) (rw (← t) at (after-call (after-lowered m (omega arith) A)))
 
@@ -71,8 +78,8 @@ calls before t e =
     record {
       next-is = ap (λ x. x .next) e;
       after-is = ap (λ x. readerOf (before .scalar) (moved (stateOf before) x)) e;
-      reads = λ w k A. ap (λ x. readOf (x .next)) e ∙ after-reads A;
-      counts = λ w k A. subst (λ x. After w (now (before .scalar)) (suc k) (moved (stateOf before) x)) (sym e) (after-call A);
+      reads = λ w o k A. ap (λ x. readOf (x .next)) e ∙ after-reads A;
+      counts = λ w o k A. subst (λ x. After w o (now (before .scalar)) (suc k) (moved (stateOf before) x)) (sym e) (after-call A);
     }
 
 -- done is done
@@ -80,8 +87,8 @@ is-done : (n : Next) → readOf n ≡ done → n ≡ Done
 is-done (Digit d) e = absurd (let z : _≡_ {A = ℕ} 0 1 = cc in omega arith)
 is-done Done e = refl
 
--- a reader made by `new` from w and s, and all that `next` makes of it and gives
-module _ (w : ℕ) (s : RefT (List ℕ)) (readers : ℕ → Reader) (answers : ℕ → Next) (made : Made w s (readers 0)) (called : (k : ℕ) → Called (readers k) (readers (suc k)) (answers k)) where
+-- a reader made by `new` from w and s, in an order, and all that `next` makes of it and gives
+module _ (w : ℕ) (o : Order) (s : RefT (List ℕ)) (readers : ℕ → Reader) (answers : ℕ → Next) (made : Made w o s (readers 0)) (called : (k : ℕ) → Called (readers k) (readers (suc k)) (answers k)) where
   -- the scalar stays lent
   pub scalar-at : (k : ℕ) → readers k .scalar ≡ s
   scalar-at zero = made .scalar-is
@@ -93,20 +100,20 @@ module _ (w : ℕ) (s : RefT (List ℕ)) (readers : ℕ → Reader) (answers : �
   refusal-at (suc k) = ap (λ r. r .refusal) (called k .after-is) ∙ refusal-at k
 
   -- the reader has been called k times
-  pub state-at : (k : ℕ) → After w (now s) k (stateOf (readers k))
+  pub state-at : (k : ℕ) → After w o (now s) k (stateOf (readers k))
   state-at zero = made .state-is
-  state-at (suc k) = (rw (scalar-at k) at (called k .counts w k)) (state-at k)
+  state-at (suc k) = (rw (scalar-at k) at (called k .counts w o k)) (state-at k)
 
   -- and the next call gives its sequence's digit at k
-  pub answer-at : (k : ℕ) → readOf (answers k) ≡ readAt (sequence (readers 0 .refusal) w (now s)) k
-  answer-at k = rw (refusal-at k) at ((rw (scalar-at k) at (called k .reads w k)) (state-at k))
+  pub answer-at : (k : ℕ) → readOf (answers k) ≡ readAt (sequence (readers 0 .refusal) w o (now s)) k
+  answer-at k = rw (refusal-at k) at ((rw (scalar-at k) at (called k .reads w o k)) (state-at k))
 
   -- past the end, done
-  pub done-past : (k : ℕ) → length (sequence (readers 0 .refusal) w (now s)) ≤ k → answers k ≡ Done
-  done-past k h = is-done (answers k) (answer-at k ∙ read-past (sequence (readers 0 .refusal) w (now s)) k h)
+  pub done-past : (k : ℕ) → length (sequence (readers 0 .refusal) w o (now s)) ≤ k → answers k ≡ Done
+  done-past k h = is-done (answers k) (answer-at k ∙ read-past (sequence (readers 0 .refusal) w o (now s)) k h)
 
   -- in a refusal, done at once
   pub done-refused : readers 0 .refusal ≢ 0 → (k : ℕ) → answers k ≡ Done
   done-refused n k =
-      let e : length (sequence (readers 0 .refusal) w (now s)) ≡ 0 = ap length (kept-lent (readers 0 .refusal) (sequence 0 w (now s)) [] n) in
+      let e : length (sequence (readers 0 .refusal) w o (now s)) ≡ 0 = ap length (kept-lent (readers 0 .refusal) (sequence 0 w o (now s)) [] n) in
       done-past k (omega arith)

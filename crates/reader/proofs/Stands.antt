@@ -12,7 +12,7 @@ use lib.IntN.{ℤ, pos}
 use lib.ListN.{length, getD, take}
 use lib.Seq.{take-suc, take-all}
 use Rattle.laws.proofs.Choices.{either, unequal}
-use Rattle.meaning.specs.Scalars.{number, bitCount, bit, below, mostBytes}
+use Rattle.meaning.specs.Scalars.{number, orderOf, bitCount, bit, below, mostBytes}
 use Rattle.meaning.specs.Windows.{oddPart}
 use Rattle.meaning.specs.Wmof.{windowAt, spot, wmof}
 use Rattle.meaning.specs.Reading.{Read, digit, done, readAt}
@@ -21,7 +21,7 @@ use Rattle.forms.proofs.Wmof.{under-ok}
 use Rattle.width.specs.Widths.{Wide}
 use Rattle.reader.specs.declared.State.{State}
 use Rattle.reader.specs.declared.Taken.{Taken}
-use Rattle.reader.specs.States.{starting, digitAt, passed, opened, taken, call, moved, after}
+use Rattle.reader.specs.States.{ready, digitAt, passed, opened, taken, call, moved, after}
 use Rattle.reader.specs.Calls.{readOf}
 use Rattle.reader.proofs.Takes.{opened-none, opened-some, takes-inside, takes-opened, takes-none}
 
@@ -43,18 +43,18 @@ module _ (s : List ℕ) where
   -- with no place to come, done for ever
   pub given-done : (q : State) → q .place ≡ 0 → (k : ℕ) → given q k ≡ done
   unfolding after
-  given-done q e zero = sym (ap (λ t. readOf (t .next)) (takes-none s (q .place) (q .width) (q .pending) (q .spot) (q .floor) (omega arith)))
+  given-done q e zero = sym (ap (λ t. readOf (t .next)) (takes-none (orderOf (q .order)) s (q .place) (q .width) (q .pending) (q .spot) (q .floor) (omega arith)))
   given-done q e (suc k) =
-      let t = takes-none s (q .place) (q .width) (q .pending) (q .spot) (q .floor) (omega arith) in
+      let t = takes-none (orderOf (q .order)) s (q .place) (q .width) (q .pending) (q .spot) (q .floor) (omega arith) in
       later q k ∙ given-done (moved q (call s q)) (sym (ap (λ x. x .place) t)) k
 
 -- x is a window's digit at place j
 digit-is : (j : ℕ) (d : ℤ) (p : ℕ) {x : ℤ} → (j ≡ p → x ≡ d) → (j ≢ p → x ≡ pos 0) → x ≡ digitAt j d p
 digit-is j d p {x} f g = either (λ y. x ≡ y) (eqb j p) (λ t. f (eqb→eq j p t)) (λ t. g (unequal j p t))
 
-module _ (w : ℕ) (s : List ℕ) (law : Wide w) (short : length s ≤ mostBytes) where
+module _ (w b : ℕ) (s : List ℕ) (law : Wide w) (short : length s ≤ mostBytes) where
   abbrev N : ℕ
-  N = number s
+  N = number (orderOf b) s
 
   abbrev L : ℕ
   L = bitCount s + 1
@@ -108,17 +108,17 @@ module _ (w : ℕ) (s : List ℕ) (law : Wide w) (short : length s ≤ mostBytes
           (λ j x y. digit-is j (oddPart w v) (spot w i v) (λ e. ap (λ k. getD ds k (pos 0)) e ∙ u) (z j x y)) b
 
   -- anywhere
-  passing : (i : ℕ) (d : ℤ) (p f : ℕ) → Stands (suc i) d p f → Passes i (taken s (suc i) w d p f)
+  passing : (i : ℕ) (d : ℤ) (p f : ℕ) → Stands (suc i) d p f → Passes i (taken (orderOf b) s (suc i) w d p f)
   passing i d p f S = go (decLt f (suc i))
     where
       high : i ≡ suc i - 1
       high = omega arith
 
-      go : Dec (f < suc i) → Passes i (taken s (suc i) w d p f)
-      go (yes h) = passes d p f (ap (λ n. passed n d p f) high ∙ takes-inside s (suc i) w d p f h) (S .fits) (omega arith) (S .window) (S .under)
+      go : Dec (f < suc i) → Passes i (taken (orderOf b) s (suc i) w d p f)
+      go (yes h) = passes d p f (ap (λ n. passed n d p f) high ∙ takes-inside (orderOf b) s (suc i) w d p f h) (S .fits) (omega arith) (S .window) (S .under)
       go (no h) =
           let e : f ≡ suc i = omega arith in
-          subst (λ t. Passes i t) (ap (λ n. opened w N n) high ∙ takes-opened s (suc i) w d p f (omega arith) (omega arith) (omega arith) law)
+          subst (λ t. Passes i t) (ap (λ n. opened w N n) high ∙ takes-opened (orderOf b) s (suc i) w d p f (omega arith) (omega arith) (omega arith) law)
           (opens i (S .fits) (subst (λ m. Agrees w N L m ds) e (S .under)))
 
   -- ---- all calls
@@ -136,7 +136,7 @@ module _ (w : ℕ) (s : List ℕ) (law : Wide w) (short : length s ≤ mostBytes
   top i h = ap reverse (take-suc ds i (pos 0) (omega (arith, size))) ∙ reverse-append (take i ds) (getD ds i (pos 0) ∷ [])
 
   abbrev state : (m : ℕ) → ℤ → (p f : ℕ) → State
-  state m d p f = record { place = m; width = w; pending = d; spot = p; floor = f; refusal = 0 }
+  state m d p f = record { place = m; width = w; pending = d; spot = p; floor = f; refusal = 0; order = b }
 
   reads : (k m : ℕ) (d : ℤ) (p f : ℕ) → Stands m d p f → given s (state m d p f) k ≡ readAt (fromTop m) k
   unfolding after readAt fromTop
@@ -150,8 +150,8 @@ module _ (w : ℕ) (s : List ℕ) (law : Wide w) (short : length s ≤ mostBytes
       later s q k ∙ ap (λ t. given s (moved q t) k) (P .is) ∙ reads k i (P .digit-of) (P .at) (P .floor) (P .stands)
       ∙ sym (ap (λ x. readAt x (suc k)) (top i (S .fits)))
 
-  -- from the start
-  pub reads-all : (k : ℕ) → given s (starting 0 w s) k ≡ readAt (reverse ds) k
+  -- from the start, with the order's byte b
+  pub reads-all : (k : ℕ) → given s (ready 0 w b L) k ≡ readAt (reverse ds) k
   unfolding fromTop
   reads-all k =
       reads k L (pos 0) 0 L (record { fits = le-refl L; low = le-refl L; window = λ j x y. absurd (omega arith); under = agrees-all w N (bitCount s) })

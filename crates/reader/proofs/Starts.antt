@@ -6,7 +6,7 @@ use Prim.Native.Nat.{ℕ, suc, _+_, _≤_}
 use native.Mathlib.Omega.{arith}
 use lib.ListN.{length}
 use Rattle.laws.proofs.Choices.{not-below}
-use Rattle.meaning.specs.Scalars.{bitCount, mostBytes}
+use Rattle.meaning.specs.Scalars.{Order, codeOf, bitCount, mostBytes}
 use Rattle.meaning.specs.Reading.{readerRules, Holds}
 use Rattle.forms.proofs.Refusals.{Until, numberAt, first-at, first-none, clear}
 use Rattle.width.specs.Widths.{Wide}
@@ -14,14 +14,14 @@ use Rattle.width.proofs.Widths.{width-fine, wide-of}
 use Rattle.reader.specs.declared.State.{State}
 use Rattle.reader.specs.States.{ready, after, After}
 
-module _ (w : ℕ) (s : List ℕ) {q : State} where
+module _ (w : ℕ) (o : Order) (s : List ℕ) {q : State} where
   -- refused by the rule at index k; each leaves no place to come
-  pub starts-none : (k : ℕ) {r : ℕ} → numberAt (readerRules w s) k ≡ suc r → Until (readerRules w s) k 0 → q ≡ ready (suc r) w 0 → After w s 0 q
+  pub starts-none : (k : ℕ) {r : ℕ} → numberAt (readerRules w s) k ≡ suc r → Until (readerRules w s) k 0 → q ≡ ready (suc r) w (codeOf o) 0 → After w o s 0 q
   unfolding after
   starts-none k n u e = rw e (record { holds = rw n at (first-at (readerRules w s) k 0 u); state-is = refl })
 
   -- accepted
-  pub starts-all : Wide w → length s ≤ mostBytes → q ≡ ready 0 w (bitCount s + 1) → After w s 0 q
+  pub starts-all : Wide w → length s ≤ mostBytes → q ≡ ready 0 w (codeOf o) (bitCount s + 1) → After w o s 0 q
   unfolding after
   starts-all l h e = rw e (record { holds = first-none (readerRules w s) (width-fine l, ((λ m. omega arith), tt)); state-is = refl })
 

@@ -7,7 +7,7 @@ use Prim.Native.Nat.{ℕ, suc, _-_, _≤_, _<_}
 use native.Mathlib.Omega.{arith}
 use lib.IntN.{ℤ, pos}
 use borrow.Author.Tests.{lt-ltb, le-ltb, le-leb, lt-leb, eq-eqb, ne-eqb}
-use Rattle.meaning.specs.Scalars.{number, bit, below}
+use Rattle.meaning.specs.Scalars.{Order, number, bit, below}
 use Rattle.meaning.specs.Digits.{leastWidth, mostWidth, mostPlaces}
 use Rattle.meaning.specs.Windows.{oddPart}
 use Rattle.meaning.specs.Wmof.{windowAt, spot}
@@ -28,43 +28,43 @@ module _ (w N i : ℕ) where
   unfolding opened
   opened-some t d e k l = t ∙ rw (e, k, l) (simp (ne-eqb _ _ d))
 
-module _ (s : List ℕ) (m w : ℕ) (d : ℤ) (p f : ℕ) where
+module _ (o : Order) (s : List ℕ) (m w : ℕ) (d : ℤ) (p f : ℕ) where
   -- one can open
-  pub fresh-opened : 0 < m → m ≤ mostPlaces → Wide w → opened w (number s) (m - 1) ≡ fresh s m w d p f
+  pub fresh-opened : 0 < m → m ≤ mostPlaces → Wide w → opened w (number o s) (m - 1) ≡ fresh o s m w d p f
   unfolding fresh
   fresh-opened a b l = simp (lt-ltb _ _ a, le-leb _ _ b, le-leb _ _ (l .0), le-leb _ _ (l .1))
 
   -- no place to come
-  pub fresh-none : m ≤ 0 → ended d p f ≡ fresh s m w d p f
+  pub fresh-none : m ≤ 0 → ended d p f ≡ fresh o s m w d p f
   unfolding fresh
   fresh-none h = simp (le-ltb 0 m h)
 
   -- more than any string has
-  pub fresh-over : mostPlaces < m → ended d p f ≡ fresh s m w d p f
+  pub fresh-over : mostPlaces < m → ended d p f ≡ fresh o s m w d p f
   unfolding fresh
   fresh-over b = simp (lt-ltb 0 m (omega arith), lt-leb _ _ b)
 
   -- no width
-  pub fresh-bad : 0 < m → m ≤ mostPlaces → (w < leastWidth) ⊎ (mostWidth < w) → ended d p f ≡ fresh s m w d p f
+  pub fresh-bad : 0 < m → m ≤ mostPlaces → (w < leastWidth) ⊎ (mostWidth < w) → ended d p f ≡ fresh o s m w d p f
   unfolding fresh
   fresh-bad a b (inl l) = simp (lt-ltb _ _ a, le-leb _ _ b, lt-leb _ _ l)
   fresh-bad a b (inr l) = simp (lt-ltb _ _ a, le-leb _ _ b, le-leb leastWidth w (omega arith), lt-leb _ _ l)
 
   -- ---- a call
   -- inside a window
-  pub takes-inside : f < m → passed (m - 1) d p f ≡ taken s m w d p f
+  pub takes-inside : f < m → passed (m - 1) d p f ≡ taken o s m w d p f
   unfolding taken
   takes-inside h = simp (lt-ltb _ _ h)
 
   -- where none is open
-  pub takes-fresh : m ≤ f → fresh s m w d p f ≡ taken s m w d p f
+  pub takes-fresh : m ≤ f → fresh o s m w d p f ≡ taken o s m w d p f
   unfolding taken
   takes-fresh h = simp (le-ltb _ _ h)
 
   -- where one can open
-  pub takes-opened : m ≤ f → 0 < m → m ≤ mostPlaces → Wide w → opened w (number s) (m - 1) ≡ taken s m w d p f
+  pub takes-opened : m ≤ f → 0 < m → m ≤ mostPlaces → Wide w → opened w (number o s) (m - 1) ≡ taken o s m w d p f
   takes-opened h a b l = fresh-opened a b l ∙ takes-fresh h
 
   -- no place to come
-  pub takes-none : m ≤ 0 → ended d p f ≡ taken s m w d p f
+  pub takes-none : m ≤ 0 → ended d p f ≡ taken o s m w d p f
   takes-none h = fresh-none h ∙ takes-fresh (omega arith)

@@ -6,7 +6,7 @@ use mathlib.Core.List.{List}
 use Prim.Native.Nat.{ℕ, zero, suc, _+_, _-_}
 use lib.Dec.{eqb, leb, ltb}
 use lib.IntN.{ℤ, pos}
-use Rattle.meaning.specs.Scalars.{number, bitCount, bit, below}
+use Rattle.meaning.specs.Scalars.{Order, number, codeOf, orderOf, bitCount, bit, below}
 use Rattle.meaning.specs.Digits.{leastWidth, mostWidth, mostPlaces}
 use Rattle.meaning.specs.Windows.{oddPart}
 use Rattle.meaning.specs.Wmof.{windowAt, spot}
@@ -17,13 +17,13 @@ use Rattle.reader.specs.declared.Taken.{Taken}
 use Rattle.reader.specs.declared.Next.the-variants.{Digit, Done}
 
 -- ---- the start
--- m places to come, and no window open
-abbrev pub ready : (r w m : ℕ) → State
-ready r w m = record { place = m; width = w; pending = pos 0; spot = 0; floor = m; refusal = r }
+-- m places to come, and no window open; b is the order's byte
+abbrev pub ready : (r w b m : ℕ) → State
+ready r w b m = record { place = m; width = w; pending = pos 0; spot = 0; floor = m; refusal = r; order = b }
 
 -- n + 1 places to come, in a refusal none
-abbrev pub starting : (r w : ℕ) → List ℕ → State
-starting r w s = ready r w (granted r (bitCount s + 1))
+abbrev pub starting : (r w : ℕ) (o : Order) → List ℕ → State
+starting r w o s = ready r w (codeOf o) (granted r (bitCount s + 1))
 
 -- ---- a call
 -- the digit at place i of a window whose digit d stands at place p
@@ -51,20 +51,20 @@ abbrev pub ended : ℤ → (p f : ℕ) → Taken
 ended d p f = record { next = Done; place = 0; pending = d; spot = p; floor = f }
 
 -- with m places to come and no window open: where one can open; else done
-unfoldable pub fresh : List ℕ → (m w : ℕ) → ℤ → (p f : ℕ) → Taken
-fresh s m w d p f = cond (openable m w) (opened w (number s) (m - 1)) (ended d p f)
+unfoldable pub fresh : Order → List ℕ → (m w : ℕ) → ℤ → (p f : ℕ) → Taken
+fresh o s m w d p f = cond (openable m w) (opened w (number o s) (m - 1)) (ended d p f)
 
 -- with m places to come: inside a window; else where none is open
-unfoldable pub taken : List ℕ → (m w : ℕ) → ℤ → (p f : ℕ) → Taken
-taken s m w d p f = cond (ltb f m) (passed (m - 1) d p f) (fresh s m w d p f)
+unfoldable pub taken : Order → List ℕ → (m w : ℕ) → ℤ → (p f : ℕ) → Taken
+taken o s m w d p f = cond (ltb f m) (passed (m - 1) d p f) (fresh o s m w d p f)
 
 -- what a call takes from a state
 abbrev pub call : List ℕ → State → Taken
-call s q = taken s (q .place) (q .width) (q .pending) (q .spot) (q .floor)
+call s q = taken (orderOf (q .order)) s (q .place) (q .width) (q .pending) (q .spot) (q .floor)
 
 -- and the state after it
 abbrev pub moved : State → Taken → State
-moved q t = record { place = t .place; width = q .width; pending = t .pending; spot = t .spot; floor = t .floor; refusal = q .refusal }
+moved q t = record { place = t .place; width = q .width; pending = t .pending; spot = t .spot; floor = t .floor; refusal = q .refusal; order = q .order }
 
 -- ---- calls
 -- the state after k calls
@@ -72,7 +72,7 @@ unfoldable pub after : List ℕ → State → ℕ → State
 after s q zero = q
 after s q (suc k) = moved (after s q k) (call s (after s q k))
 
--- q is the state of a reader made from w and s after k calls
-pub record After (w : ℕ) (s : List ℕ) (k : ℕ) (q : State) : Type 0 where
+-- q is the state of a reader made from w and s, in an order, after k calls
+pub record After (w : ℕ) (o : Order) (s : List ℕ) (k : ℕ) (q : State) : Type 0 where
   pub holds : Holds w s (q .refusal)
-  pub state-is : q ≡ after s (starting (q .refusal) w s) k
+  pub state-is : q ≡ after s (starting (q .refusal) w o s) k

@@ -3,11 +3,13 @@
 // through a reader, needs no walk by hand.
 ghost use mathlib.Core.Path.{_≡_};
 ghost use Prim.Native.Nat.{_-_, _≤_, _<_, min};
-ghost use Rattle.meaning.specs.Scalars.{number};
+ghost use Rattle.meaning.specs.Scalars.{number, orderOf};
 ghost use Rattle.meaning.specs.Digits.{mostPlaces};
 ghost use Rattle.width.specs.Widths.{Wide};
+ghost use Rattle.scalar.specs.Orders.{ordered};
 ghost use Rattle.reader.specs.States.{digitAt, ready, passed, opened, fresh, taken, call, moved, After};
 ghost use Rattle.reader.specs.Calls.{Made, Called, Answered};
+use scalar::Order;
 use width::Known;
 use width::Width;
 
@@ -17,7 +19,7 @@ pub enum Next {
     Done,
 }
 
-// `place` counts the places to come. Those from `floor` up belong to one window: its digit, `pending`, stands at `spot`, and a 0 at each other place.
+// `order` is the byte of the order of the scalar's bytes. `place` counts the places to come. Those from `floor` up belong to one window: its digit, `pending`, stands at `spot`, and a 0 at each other place.
 pub struct Reader<'a> {
     pub scalar: &'a [u8],
     pub place: usize,
@@ -26,6 +28,7 @@ pub struct Reader<'a> {
     pub spot: usize,
     pub floor: usize,
     pub refusal: u8,
+    pub order: u8,
 }
 
 // A reader without its scalar.
@@ -36,6 +39,7 @@ pub struct State {
     pub spot: usize,
     pub floor: usize,
     pub refusal: u8,
+    pub order: u8,
 }
 
 // What a call gives, and what it changes in the state.
@@ -54,8 +58,8 @@ pub struct Reading {
 }
 
 // Before any call: no window is open yet over the `places` to come.
-fn ready(refusal: u8, width: u8, places: usize) -> State
-    ensures { λ r. ⌜ r ≡ ready refusal width places ⌝ }
+fn ready(refusal: u8, width: u8, order: u8, places: usize) -> State
+    ensures { λ r. ⌜ r ≡ ready refusal width order places ⌝ }
 {
     State {
         place: places,
@@ -64,20 +68,22 @@ fn ready(refusal: u8, width: u8, places: usize) -> State
         spot: 0,
         floor: places,
         refusal,
+        order,
     }
 }
 
 // Refused input leaves no place to come.
-pub fn start(width: u8, scalar: &[u8]) -> State
-    ensures { λ r. ⌜ After width (now (scalar .entry)) 0 r ⌝ }
+pub fn start(width: u8, order: Order, scalar: &[u8]) -> State
+    ensures { λ r. ⌜ After width (ordered order) (now (scalar .entry)) 0 r ⌝ }
 {
+    let code = scalar::code_of(order);
     if let Known::As(_) = Width::known(width) {
         if scalar::MOST_BYTES < scalar.len() {
-            return ready(3, width, 0);
+            return ready(3, width, code, 0);
         }
-        return ready(0, width, 8 * scalar.len() + 1);
+        return ready(0, width, code, 8 * scalar.len() + 1);
     }
-    ready(2, width, 0)
+    ready(2, width, code, 0)
 }
 
 // The digit at place i of a window.
@@ -103,13 +109,13 @@ fn pass(place: usize, pending: i8, spot: usize, floor: usize) -> Taken
 }
 
 // The same where no window is open: one opens over the places to come, or one place alone is passed.
-fn opening(w: Width, scalar: &[u8], place: usize) -> Taken
+fn opening(w: Width, order: u8, scalar: &[u8], place: usize) -> Taken
     requires { ⌜ Wide (w .bits) ⌝ }
     requires { ⌜ (0 < place) × (place ≤ mostPlaces) ⌝ }
-    ensures { λ r. ⌜ r ≡ opened (w .bits) (number (now (scalar .entry))) (place - 1) ⌝ }
+    ensures { λ r. ⌜ r ≡ opened (w .bits) (number (orderOf order) (now (scalar .entry))) (place - 1) ⌝ }
 {
     let width = w.bits();
-    let bits = scalar::window(scalar, place - 1, width);
+    let bits = scalar::window(order, scalar, place - 1, width);
     if windows::opening::opens(width, bits) {
         let found = windows::opening::placed(width, windows::look_up(w, bits), place);
         return pass(place, found.unit, found.spot, found.left);
@@ -118,13 +124,21 @@ fn opening(w: Width, scalar: &[u8], place: usize) -> Taken
 }
 
 // Where no window is open. A state that was made up elsewhere is done where none can open.
-fn fresh(scalar: &[u8], place: usize, width: u8, pending: i8, spot: usize, floor: usize) -> Taken
-    ensures { λ r. ⌜ r ≡ fresh (now (scalar .entry)) place width pending spot floor ⌝ }
+fn fresh(
+    scalar: &[u8],
+    place: usize,
+    width: u8,
+    pending: i8,
+    spot: usize,
+    floor: usize,
+    order: u8,
+) -> Taken
+    ensures { λ r. ⌜ r ≡ fresh (orderOf order) (now (scalar .entry)) place width pending spot floor ⌝ }
 {
     if 0 < place {
         if place <= Width::MOST_PLACES {
             if let Known::As(w) = Width::known(width) {
-                return opening(w, scalar, place);
+                return opening(w, order, scalar, place);
             }
         }
     }
@@ -138,13 +152,21 @@ fn fresh(scalar: &[u8], place: usize, width: u8, pending: i8, spot: usize, floor
 }
 
 // One call.
-pub fn step(scalar: &[u8], place: usize, width: u8, pending: i8, spot: usize, floor: usize) -> Taken
-    ensures { λ r. ⌜ r ≡ taken (now (scalar .entry)) place width pending spot floor ⌝ }
+pub fn step(
+    scalar: &[u8],
+    place: usize,
+    width: u8,
+    pending: i8,
+    spot: usize,
+    floor: usize,
+    order: u8,
+) -> Taken
+    ensures { λ r. ⌜ r ≡ taken (orderOf order) (now (scalar .entry)) place width pending spot floor ⌝ }
 {
     if floor < place {
         return pass(place, pending, spot, floor);
     }
-    fresh(scalar, place, width, pending, spot, floor)
+    fresh(scalar, place, width, pending, spot, floor, order)
 }
 
 // One call on a state. It is not made through `step`: with two callers `fresh` is compiled apart, and a call inside a window stays short.
@@ -161,6 +183,7 @@ pub fn call(scalar: &[u8], state: State) -> Taken
         state.pending,
         state.spot,
         state.floor,
+        state.order,
     )
 }
 
@@ -175,6 +198,7 @@ pub fn moved(state: State, taken: Taken) -> State
         spot: taken.spot,
         floor: taken.floor,
         refusal: state.refusal,
+        order: state.order,
     }
 }
 
@@ -195,10 +219,10 @@ fn held(place: usize, floor: usize, most: u16) -> u16
 
 // What `Reader::new` and the call of `Reader::next` after `calls` others give, for a caller that holds no reader. The places that a window still holds
 // are passed at once.
-pub fn read_at(width: u8, scalar: &[u8], calls: u16) -> Reading
-    ensures { λ r. ⌜ Answered width (now (scalar .entry)) calls r ⌝ }
+pub fn read_at(width: u8, order: Order, scalar: &[u8], calls: u16) -> Reading
+    ensures { λ r. ⌜ Answered width (ordered order) (now (scalar .entry)) calls r ⌝ }
 {
-    let mut state = start(width, scalar);
+    let mut state = start(width, order, scalar);
     let mut k: u16 = 0;
     loop {
         let taken = call(scalar, state);
@@ -218,10 +242,10 @@ pub fn read_at(width: u8, scalar: &[u8], calls: u16) -> Reading
 }
 
 impl<'a> Reader<'a> {
-    pub fn new(width: u8, scalar: &'a [u8]) -> Reader<'a>
-        ensures { λ r. ⌜ Made width (scalar .entry) r ⌝ }
+    pub fn new(width: u8, order: Order, scalar: &'a [u8]) -> Reader<'a>
+        ensures { λ r. ⌜ Made width (ordered order) (scalar .entry) r ⌝ }
     {
-        let state = start(width, scalar);
+        let state = start(width, order, scalar);
         Reader {
             scalar,
             place: state.place,
@@ -230,6 +254,7 @@ impl<'a> Reader<'a> {
             spot: state.spot,
             floor: state.floor,
             refusal: state.refusal,
+            order: state.order,
         }
     }
 
@@ -243,6 +268,7 @@ impl<'a> Reader<'a> {
             self.pending,
             self.spot,
             self.floor,
+            self.order,
         );
         self.place = taken.place;
         self.pending = taken.pending;
@@ -253,10 +279,10 @@ impl<'a> Reader<'a> {
 }
 
 // `Reader::new` and `Reader::next` for a caller whose locals hold no reference: the reader stands in a local here, and its state goes in and out.
-pub fn new_state(width: u8, scalar: &[u8]) -> State
-    ensures { λ r. ⌜ After width (now (scalar .entry)) 0 r ⌝ }
+pub fn new_state(width: u8, order: Order, scalar: &[u8]) -> State
+    ensures { λ r. ⌜ After width (ordered order) (now (scalar .entry)) 0 r ⌝ }
 {
-    let reader = Reader::new(width, scalar);
+    let reader = Reader::new(width, order, scalar);
     State {
         place: reader.place,
         width: reader.width,
@@ -264,6 +290,7 @@ pub fn new_state(width: u8, scalar: &[u8]) -> State
         spot: reader.spot,
         floor: reader.floor,
         refusal: reader.refusal,
+        order: reader.order,
     }
 }
 
@@ -279,6 +306,7 @@ pub fn next_of(scalar: &[u8], state: State) -> Taken
         spot: state.spot,
         floor: state.floor,
         refusal: state.refusal,
+        order: state.order,
     };
     let next = reader.next();
     Taken {

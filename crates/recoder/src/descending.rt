@@ -3,7 +3,7 @@
 ghost use mathlib.Core.Path.{_≡_};
 ghost use Prim.Native.Nat.{_+_, _-_, _/_, _%_, _^_, _<_, _≤_};
 ghost use lib.ListN.{length};
-ghost use Rattle.meaning.specs.Scalars.{number, bitCount, mostBytes};
+ghost use Rattle.meaning.specs.Scalars.{number, orderOf, bitCount, mostBytes};
 ghost use Rattle.meaning.specs.Digits.{mostPlaces};
 ghost use Rattle.meaning.specs.Recoding.{markWords, marksOf};
 ghost use Rattle.width.specs.Widths.{Wide};
@@ -57,6 +57,7 @@ fn smaller(a: usize, b: usize) -> usize
 // Writes the digits of the windows that open in one stretch, at place `floor` or above, with `from` places left. Gives the places left then.
 fn advance(
     w: u32,
+    order: u8,
     s: &[u8],
     from: usize,
     floor: usize,
@@ -68,12 +69,12 @@ fn advance(
     requires { ⌜ now marks ≡ marksOf (now digits) ⌝ }
     requires { ⌜ Clear from (now digits) ⌝ }
     ensures { λ r. ⌜ r < from ⌝ }
-    ensures { λ r. ⌜ Swept w (number (now (s .entry))) floor from (now (digits .entry)) r (now (digits .exit)) ⌝ }
+    ensures { λ r. ⌜ Swept w (number (orderOf order) (now (s .entry))) floor from (now (digits .entry)) r (now (digits .exit)) ⌝ }
     ensures { λ _. ⌜ now (marks .exit) ≡ marksOf (now (digits .exit)) ⌝ }
 {
     let tail = w - 1;
     let lowest = lowest_place(w, from, floor);
-    let x = scalar::stretch_under(s, lowest, w);
+    let x = scalar::stretch_under(order, s, lowest, w);
     let mut opens = opened::places(tail, x, from - lowest);
     let mut left = from;
     while opens != 0 {
@@ -88,18 +89,26 @@ fn advance(
 }
 
 // Writes the digits of all windows that open at place `floor` or above, with `from` places left. Gives the places left then.
-fn sweep(w: u32, s: &[u8], from: usize, floor: usize, digits: &mut [i8], marks: &mut [u64]) -> usize
+fn sweep(
+    w: u32,
+    order: u8,
+    s: &[u8],
+    from: usize,
+    floor: usize,
+    digits: &mut [i8],
+    marks: &mut [u64],
+) -> usize
     requires { ⌜ Wide w ⌝ }
     requires { ⌜ (from ≤ length (now digits)) × (length (now digits) ≤ mostPlaces) ⌝ }
     requires { ⌜ now marks ≡ marksOf (now digits) ⌝ }
     requires { ⌜ Clear from (now digits) ⌝ }
     ensures { λ r. ⌜ r ≤ floor ⌝ }
-    ensures { λ r. ⌜ Swept w (number (now (s .entry))) floor from (now (digits .entry)) r (now (digits .exit)) ⌝ }
+    ensures { λ r. ⌜ Swept w (number (orderOf order) (now (s .entry))) floor from (now (digits .entry)) r (now (digits .exit)) ⌝ }
     ensures { λ _. ⌜ now (marks .exit) ≡ marksOf (now (digits .exit)) ⌝ }
 {
     let mut left = from;
     while floor < left {
-        left = advance(w, s, left, floor, digits, marks);
+        left = advance(w, order, s, left, floor, digits, marks);
     }
     left
 }
@@ -114,25 +123,25 @@ fn turns(w: u32, bits: u32, turn: u32) -> bool
 
 // Writes the string of `s` into exactly as many places as it has, and marks them. One window may tie, w places above the lowest set bit. Where it leads with `turn` and is
 // come to, it is taken one lower, and a 1 at the lowest set bit makes up for it.
-pub fn write(w: u32, turn: u32, s: &[u8], digits: &mut [i8], marks: &mut [u64])
+pub fn write(w: u32, turn: u32, order: u8, s: &[u8], digits: &mut [i8], marks: &mut [u64])
     requires { ⌜ Wide w ⌝ }
     requires { ⌜ length (now s) ≤ mostBytes ⌝ }
     requires { ⌜ length (now digits) ≡ bitCount (now s) + 1 ⌝ }
     requires { ⌜ length (now marks) ≡ markWords ⌝ }
-    ensures { λ _. ⌜ Turned turn w (number (now (s .entry))) (bitCount (now (s .entry))) (now (digits .exit)) ⌝ }
+    ensures { λ _. ⌜ Turned turn w (number (orderOf order) (now (s .entry))) (bitCount (now (s .entry))) (now (digits .exit)) ⌝ }
     ensures { λ _. ⌜ now (marks .exit) ≡ marksOf (now (digits .exit)) ⌝ }
 {
     places::clear(digits, marks);
-    let low = scalar::lowest(s);
+    let low = scalar::lowest(order, s);
     let tie = low + (w as usize);
-    let bits = scalar::window(s, tie, w);
+    let bits = scalar::window(order, s, tie, w);
     if !turns(w, bits, turn) {
-        sweep(w, s, digits.len(), 0, digits, marks);
+        sweep(w, order, s, digits.len(), 0, digits, marks);
         return;
     }
-    let left = sweep(w, s, digits.len(), tie + 1, digits, marks);
+    let left = sweep(w, order, s, digits.len(), tie + 1, digits, marks);
     if left < tie + 1 {
-        sweep(w, s, left, 0, digits, marks);
+        sweep(w, order, s, left, 0, digits, marks);
         return;
     }
     let place = windows::opening::placed(w, windows::work_out(w, bits, 1), left);

@@ -3,7 +3,7 @@ ghost use mathlib.Core.Path.{_≡_};
 ghost use Prim.Native.Nat.{_+_, _-_, _/_, _%_, _^_, _<_, _≤_};
 ghost use lib.IntN.{pos, _-ℤ_};
 ghost use lib.ListN.{length};
-ghost use Rattle.meaning.specs.Scalars.{number, bitCount, mostBytes};
+ghost use Rattle.meaning.specs.Scalars.{number, orderOf, bitCount, mostBytes};
 ghost use Rattle.meaning.specs.Recoding.{markWords, marksOf};
 ghost use Rattle.meaning.specs.Mof.{mof};
 ghost use Rattle.recoder.specs.Sweeps.{Above};
@@ -32,17 +32,17 @@ fn lowest_place(from: usize) -> usize
 }
 
 // Writes the digits of one stretch under place `from`. Gives the lowest place of it.
-fn advance(s: &[u8], from: usize, digits: &mut [i8], marks: &mut [u64]) -> usize
+fn advance(order: u8, s: &[u8], from: usize, digits: &mut [i8], marks: &mut [u64]) -> usize
     requires { ⌜ length (now s) ≤ mostBytes ⌝ }
     requires { ⌜ 0 < from ⌝ }
-    requires { ⌜ Above (number (now s)) (bitCount (now s)) from (now digits) ⌝ }
+    requires { ⌜ Above (number (orderOf order) (now s)) (bitCount (now s)) from (now digits) ⌝ }
     requires { ⌜ now marks ≡ marksOf (now digits) ⌝ }
     ensures { λ r. ⌜ r < from ⌝ }
-    ensures { λ r. ⌜ Above (number (now (s .entry))) (bitCount (now (s .entry))) r (now (digits .exit)) ⌝ }
+    ensures { λ r. ⌜ Above (number (orderOf order) (now (s .entry))) (bitCount (now (s .entry))) r (now (digits .exit)) ⌝ }
     ensures { λ _. ⌜ now (marks .exit) ≡ marksOf (now (digits .exit)) ⌝ }
 {
     let lowest = lowest_place(from);
-    let x = scalar::stretch_under(s, lowest, 1);
+    let x = scalar::stretch_under(order, s, lowest, 1);
     let mut opens = opened::places(0, x, from - lowest);
     while opens != 0 {
         let at = opened::highest(0, opens);
@@ -53,16 +53,16 @@ fn advance(s: &[u8], from: usize, digits: &mut [i8], marks: &mut [u64]) -> usize
 }
 
 // Writes the string of `s` into exactly as many places as it has, and marks them.
-pub fn write(s: &[u8], digits: &mut [i8], marks: &mut [u64])
+pub fn write(order: u8, s: &[u8], digits: &mut [i8], marks: &mut [u64])
     requires { ⌜ length (now s) ≤ mostBytes ⌝ }
     requires { ⌜ length (now digits) ≡ bitCount (now s) + 1 ⌝ }
     requires { ⌜ length (now marks) ≡ markWords ⌝ }
-    ensures { λ _. ⌜ now (digits .exit) ≡ mof (number (now (s .entry))) (bitCount (now (s .entry))) ⌝ }
+    ensures { λ _. ⌜ now (digits .exit) ≡ mof (number (orderOf order) (now (s .entry))) (bitCount (now (s .entry))) ⌝ }
     ensures { λ _. ⌜ now (marks .exit) ≡ marksOf (now (digits .exit)) ⌝ }
 {
     places::clear(digits, marks);
     let mut left = digits.len();
     while 0 < left {
-        left = advance(s, left, digits, marks);
+        left = advance(order, s, left, digits, marks);
     }
 }

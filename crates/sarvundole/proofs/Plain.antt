@@ -4,6 +4,7 @@ use mathlib.Core.Path.{_≡_, subst, sym, ap, ap₂, _∙_}
 use mathlib.Core.List.{List}
 use Prim.Native.Nat.{ℕ, suc}
 use lib.IntN.{ℤ}
+use Rattle.meaning.specs.Scalars.{Order}
 use Rattle.meaning.specs.Running.{Run}
 use Rattle.run.specs.declared.Outcome.{Outcome}
 use Rattle.run.specs.declared.Ran.{Ran}
@@ -28,7 +29,7 @@ told {w} {ws} {m} {g} {multiples₀} {r} {multiples} q p =
     (p .run)
 
 -- a reading whose call is told by g and d
-pub read : {w : ℕ} {s : List ℕ} {k : ℕ} {r : Reading} {g : ℕ} {d : ℤ} → Answered w s k r → Tells (r .next) g d → Reads w s k (r .refusal) g d
+pub read : {w : ℕ} {o : Order} {s : List ℕ} {k : ℕ} {r : Reading} {g : ℕ} {d : ℤ} → Answered w o s k r → Tells (r .next) g d → Reads w o s k (r .refusal) g d
 read a t = record { holds = a .holds; given-is = t .given-is ∙ ap given (a .gives); digit-is = t .digit-is ∙ ap digitOf (a .gives) }
 
 -- a call that takes t from a state, and is told by g and d
@@ -42,7 +43,7 @@ stepped {s} {before} {state} {after} {t} {g} {d} b e m p =
       given-is = p .given-is ∙ ap given shown;
       digit-is = p .digit-is ∙ ap digitOf shown;
       after-is = left;
-      reads-given = λ w k A. p .given-is ∙ ap given (shown ∙ after-reads A);
-      reads-digit = λ w k A. p .digit-is ∙ ap digitOf (shown ∙ after-reads A);
-      counts = λ w k A. subst (After w s (suc k)) (sym left) (after-call A);
+      reads-given = λ w o k A. p .given-is ∙ ap given (shown ∙ after-reads A);
+      reads-digit = λ w o k A. p .digit-is ∙ ap digitOf (shown ∙ after-reads A);
+      counts = λ w o k A. subst (After w o s (suc k)) (sym left) (after-call A);
     }

@@ -6,7 +6,7 @@ use Rattle.sarvundole.specs.declared.exported.Reader.{Reader}
 
 -- its state
 abbrev pub stateOf : Reader → State
-stateOf r = record { place = r .place; width = r .width; pending = r .pending; spot = r .spot; floor = r .floor; refusal = r .refusal }
+stateOf r = record { place = r .place; width = r .width; pending = r .pending; spot = r .spot; floor = r .floor; refusal = r .refusal; order = r .order }
 
 -- a state whose places fit
 pub record Small (q : State) : Type 0 where

@@ -4,6 +4,7 @@ use mathlib.Core.Path.{_≡_}
 use mathlib.Core.List.{List}
 use Prim.Native.Nat.{ℕ}
 use lib.IntN.{ℤ, pos}
+use Rattle.meaning.specs.Scalars.{Order}
 use Rattle.meaning.specs.Reading.{Holds, sequence, Read, digit, done, readAt}
 use Rattle.reader.specs.declared.Next.{Next}
 use Rattle.reader.specs.Calls.{readOf}
@@ -23,8 +24,8 @@ pub record Tells (x : Next) (g : ℕ) (d : ℤ) : Type 0 where
   pub given-is : g ≡ given (readOf x)
   pub digit-is : d ≡ digitOf (readOf x)
 
--- the number that a reader of w and s holds, and what its call after k others gives
-pub record Reads (w : ℕ) (s : List ℕ) (k r g : ℕ) (d : ℤ) : Type 0 where
+-- the number that a reader of w and s, in an order, holds, and what its call after k others gives
+pub record Reads (w : ℕ) (o : Order) (s : List ℕ) (k r g : ℕ) (d : ℤ) : Type 0 where
   pub holds : Holds w s r
-  pub given-is : g ≡ given (readAt (sequence r w s) k)
-  pub digit-is : d ≡ digitOf (readAt (sequence r w s) k)
+  pub given-is : g ≡ given (readAt (sequence r w o s) k)
+  pub digit-is : d ≡ digitOf (readAt (sequence r w o s) k)

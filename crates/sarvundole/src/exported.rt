@@ -1,5 +1,6 @@
-// The calls for C. A slice is a pointer and a count there, and an answer a struct by value. Each promises what the call that it makes promises.
+// The calls for C. A slice is a pointer and a count there, an answer a struct by value, and an order of bytes a byte: 0 highest first, anything else lowest first. Each promises what the call that it makes promises.
 ghost use mathlib.Core.Path.{_≡_};
+ghost use Rattle.meaning.specs.Scalars.{orderOf};
 ghost use Rattle.meaning.specs.Recoding.{Recode};
 ghost use Rattle.meaning.specs.Checking.{checkRules, nonadjacentRules, Check};
 ghost use Rattle.meaning.specs.Taping.{Tape};
@@ -49,6 +50,7 @@ pub struct Reader {
     pub width: u8,
     pub pending: i8,
     pub refusal: u8,
+    pub order: u8,
 }
 
 // A reader after one call more, and what the call gave.
@@ -63,27 +65,33 @@ pub struct Stepped {
 pub extern "C" fn sarvundole_recode(
     form: u8,
     width: u8,
+    order: u8,
     scalar: &[u8],
     digits: &mut [i8],
     marks: &mut [u64],
 ) -> Tally
-    ensures { λ r. ⌜ Recode form width (now (scalar .entry)) (now (digits .entry)) (now (marks .entry)) (told r) (now (digits .exit)) (now (marks .exit)) ⌝ }
+    ensures { λ r. ⌜ Recode form width (orderOf order) (now (scalar .entry)) (now (digits .entry)) (now (marks .entry)) (told r) (now (digits .exit)) (now (marks .exit)) ⌝ }
 {
-    recoder::recode(form, width, scalar, digits, marks)
+    recoder::recode(form, width, scalar::order_of(order), scalar, digits, marks)
 }
 
 #[no_mangle]
-pub extern "C" fn sarvundole_check(width: u8, scalar: &[u8], digits: &[i8]) -> Tally
-    ensures { λ r. ⌜ Check (checkRules width (now (scalar .entry)) (now (digits .entry))) (now (digits .entry)) (told r) ⌝ }
+pub extern "C" fn sarvundole_check(width: u8, order: u8, scalar: &[u8], digits: &[i8]) -> Tally
+    ensures { λ r. ⌜ Check (checkRules width (orderOf order) (now (scalar .entry)) (now (digits .entry))) (now (digits .entry)) (told r) ⌝ }
 {
-    judge::check(width, scalar, digits)
+    judge::check(width, scalar::order_of(order), scalar, digits)
 }
 
 #[no_mangle]
-pub extern "C" fn sarvundole_check_nonadjacent(width: u8, scalar: &[u8], digits: &[i8]) -> Tally
-    ensures { λ r. ⌜ Check (nonadjacentRules width (now (scalar .entry)) (now (digits .entry))) (now (digits .entry)) (told r) ⌝ }
+pub extern "C" fn sarvundole_check_nonadjacent(
+    width: u8,
+    order: u8,
+    scalar: &[u8],
+    digits: &[i8],
+) -> Tally
+    ensures { λ r. ⌜ Check (nonadjacentRules width (orderOf order) (now (scalar .entry)) (now (digits .entry))) (now (digits .entry)) (told r) ⌝ }
 {
-    judge::check_nonadjacent(width, scalar, digits)
+    judge::check_nonadjacent(width, scalar::order_of(order), scalar, digits)
 }
 
 #[no_mangle]
@@ -142,10 +150,10 @@ fn plain(next: Next) -> Given
 }
 
 #[no_mangle]
-pub extern "C" fn sarvundole_read_at(width: u8, scalar: &[u8], calls: u16) -> Reading
-    ensures { λ r. ⌜ Reads width (now (scalar .entry)) calls (r .refusal) (r .given) (r .digit) ⌝ }
+pub extern "C" fn sarvundole_read_at(width: u8, order: u8, scalar: &[u8], calls: u16) -> Reading
+    ensures { λ r. ⌜ Reads width (orderOf order) (now (scalar .entry)) calls (r .refusal) (r .given) (r .digit) ⌝ }
 {
-    let made = reader::read_at(width, scalar, calls);
+    let made = reader::read_at(width, scalar::order_of(order), scalar, calls);
     let next = made.next;
     let told = plain(next);
     Reading {
@@ -166,6 +174,7 @@ fn state(reader: Reader) -> State
         spot: reader.spot as usize,
         floor: reader.floor as usize,
         refusal: reader.refusal,
+        order: reader.order,
     }
 }
 
@@ -181,14 +190,15 @@ fn kept(state: State) -> Reader
         width: state.width,
         pending: state.pending,
         refusal: state.refusal,
+        order: state.order,
     }
 }
 
 #[no_mangle]
-pub extern "C" fn sarvundole_reader_start(width: u8, scalar: &[u8]) -> Reader
-    ensures { λ r. ⌜ After width (now (scalar .entry)) 0 (stateOf r) ⌝ }
+pub extern "C" fn sarvundole_reader_start(width: u8, order: u8, scalar: &[u8]) -> Reader
+    ensures { λ r. ⌜ After width (orderOf order) (now (scalar .entry)) 0 (stateOf r) ⌝ }
 {
-    kept(reader::start(width, scalar))
+    kept(reader::start(width, scalar::order_of(order), scalar))
 }
 
 #[no_mangle]
@@ -203,6 +213,7 @@ pub extern "C" fn sarvundole_reader_next(scalar: &[u8], reader: Reader) -> Stepp
         before.pending,
         before.spot,
         before.floor,
+        before.order,
     );
     let after = kept(reader::moved(before, taken));
     let next = taken.next;

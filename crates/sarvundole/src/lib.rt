@@ -25,6 +25,7 @@ pub use run::Ran;
 pub use run::Refusal;
 pub use run::run;
 pub use scalar::MOST_BYTES;
+pub use scalar::Order;
 pub use search::Searched;
 pub use search::search;
 pub use tape::Move;

@@ -1,4 +1,5 @@
--- Laws of a scalar's bytes, bits and windows.
+-- Laws of a scalar's orders, bytes, bits and windows.
+pub mod Orders
 pub mod Bytes
 pub mod Fields
 pub mod Zeros

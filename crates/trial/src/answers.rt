@@ -6,6 +6,7 @@ use crate::recoding;
 use crate::running;
 use crate::searching;
 use crate::taping;
+use scalar::Order;
 ghost use Prim.Native.Nat.{_≤_};
 ghost use lib.ListN.{length};
 ghost use Rattle.trial.specs.Room.{mostAnswer, Answered};
@@ -13,7 +14,7 @@ ghost use Rattle.trial.specs.Room.{mostAnswer, Answered};
 // What a line that is no frame is answered.
 const NO_FRAME: u64 = 0xFF;
 
-// The answer of the call that a frame names, or nothing where it names none.
+// The answer of the call that a frame names, or nothing where it names none. With 80 added, the frame's scalar is lowest byte first.
 fn call(frame: &[u8], out: &mut [u8]) -> usize
     requires { ⌜ mostAnswer ≤ length (now out) ⌝ }
     ensures { λ r. ⌜ Answered r ⌝ }
@@ -22,13 +23,17 @@ fn call(frame: &[u8], out: &mut [u8]) -> usize
         return 0;
     }
     match frame[0] {
-        1 => recoding::answer(frame, out),
-        2 => checking::answer(false, frame, out),
-        3 => checking::answer(true, frame, out),
-        4 => taping::answer(frame, out),
-        5 => running::answer(frame, out),
-        6 => reading::answer(frame, out),
-        7 => searching::answer(frame, out),
+        0x01 => recoding::answer(Order::HighestFirst, frame, out),
+        0x02 => checking::answer(false, Order::HighestFirst, frame, out),
+        0x03 => checking::answer(true, Order::HighestFirst, frame, out),
+        0x04 => taping::answer(frame, out),
+        0x05 => running::answer(frame, out),
+        0x06 => reading::answer(Order::HighestFirst, frame, out),
+        0x07 => searching::answer(frame, out),
+        0x81 => recoding::answer(Order::LowestFirst, frame, out),
+        0x82 => checking::answer(false, Order::LowestFirst, frame, out),
+        0x83 => checking::answer(true, Order::LowestFirst, frame, out),
+        0x86 => reading::answer(Order::LowestFirst, frame, out),
         _ => 0,
     }
 }

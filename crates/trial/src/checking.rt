@@ -2,6 +2,7 @@
 use crate::frames;
 use crate::lent;
 use crate::print;
+use scalar::Order;
 ghost use mathlib.Core.Path.{_≡_};
 ghost use Prim.Native.Nat.{_≤_};
 ghost use lib.ListN.{length};
@@ -14,6 +15,7 @@ const HEAD: usize = 3;
 fn made(
     nonadjacent: bool,
     width: u8,
+    order: Order,
     scalar: &[u8],
     given: &[u8],
     digits: &mut [i8],
@@ -25,9 +27,9 @@ fn made(
 {
     frames::digits(given, digits);
     let verdict = if nonadjacent {
-        judge::check_nonadjacent(width, scalar, digits)
+        judge::check_nonadjacent(width, order, scalar, digits)
     } else {
-        judge::check(width, scalar, digits)
+        judge::check(width, order, scalar, digits)
     };
     print::fields(
         verdict.refusal,
@@ -39,7 +41,7 @@ fn made(
 }
 
 // The answer to a frame, and where it ends: nothing where the bytes are no such frame.
-pub fn answer(nonadjacent: bool, frame: &[u8], out: &mut [u8]) -> usize
+pub fn answer(nonadjacent: bool, order: Order, frame: &[u8], out: &mut [u8]) -> usize
     requires { ⌜ mostAnswer ≤ length (now out) ⌝ }
     ensures { λ r. ⌜ Answered r ⌝ }
 {
@@ -62,6 +64,7 @@ pub fn answer(nonadjacent: bool, frame: &[u8], out: &mut [u8]) -> usize
     made(
         nonadjacent,
         frame[1],
+        order,
         &frame[HEAD..end],
         &frame[end..],
         &mut digits[..places],

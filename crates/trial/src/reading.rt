@@ -2,6 +2,7 @@
 use crate::frames;
 use crate::print;
 use reader::Next;
+use scalar::Order;
 ghost use mathlib.Core.Path.{_≡_};
 ghost use Prim.Native.Nat.{_+_, _*_, _≤_};
 ghost use lib.ListN.{length};
@@ -24,11 +25,11 @@ fn put_next(next: Next, at: usize, out: &mut [u8]) -> usize
 }
 
 // A reader is made and called, and its answers are written.
-fn made(width: u8, scalar: &[u8], calls: usize, out: &mut [u8]) -> usize
+fn made(width: u8, order: Order, scalar: &[u8], calls: usize, out: &mut [u8]) -> usize
     requires { ⌜ 2 + 4 * calls ≤ length (now out) ⌝ }
     ensures { λ r. ⌜ r ≡ 2 + 4 * calls ⌝ }
 {
-    let mut state = reader::new_state(width, scalar);
+    let mut state = reader::new_state(width, order, scalar);
     let mut at = print::number(state.refusal as u64, 1, 0, out);
     let mut k = 0;
     while k < calls {
@@ -42,7 +43,7 @@ fn made(width: u8, scalar: &[u8], calls: usize, out: &mut [u8]) -> usize
 }
 
 // The answer to a frame, and where it ends: nothing where the bytes are no such frame.
-pub fn answer(frame: &[u8], out: &mut [u8]) -> usize
+pub fn answer(order: Order, frame: &[u8], out: &mut [u8]) -> usize
     requires { ⌜ mostAnswer ≤ length (now out) ⌝ }
     ensures { λ r. ⌜ Answered r ⌝ }
 {
@@ -56,5 +57,5 @@ pub fn answer(frame: &[u8], out: &mut [u8]) -> usize
     if frames::BYTES < frame.len() - HEAD {
         return 0;
     }
-    made(frame[1], &frame[HEAD..], calls, out)
+    made(frame[1], order, &frame[HEAD..], calls, out)
 }

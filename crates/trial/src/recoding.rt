@@ -2,6 +2,7 @@
 use crate::frames;
 use crate::lent;
 use crate::print;
+use scalar::Order;
 ghost use mathlib.Core.Path.{_≡_};
 ghost use Prim.Native.Nat.{_+_, _*_, _≤_};
 ghost use lib.ListN.{length};
@@ -40,6 +41,7 @@ fn put_marks(marks: &[u64], at: usize, out: &mut [u8]) -> usize
 fn made(
     form: u8,
     width: u8,
+    order: Order,
     scalar: &[u8],
     digits: &mut [i8],
     marks: &mut [u64],
@@ -48,14 +50,14 @@ fn made(
     requires { ⌜ 14 + 2 * length (now digits) + 16 * length (now marks) ≤ length (now out) ⌝ }
     ensures { λ r. ⌜ r ≡ 14 + 2 * length (now (digits .entry)) + 16 * length (now (marks .entry)) ⌝ }
 {
-    let tally = recoder::recode(form, width, scalar, digits, marks);
+    let tally = recoder::recode(form, width, order, scalar, digits, marks);
     let at = print::fields(tally.refusal, tally.place, tally.weight, tally.top, out);
     let at = put_digits(digits, at, out);
     put_marks(marks, at, out)
 }
 
 // The answer to a frame, and where it ends: nothing where the bytes are no such frame.
-pub fn answer(frame: &[u8], out: &mut [u8]) -> usize
+pub fn answer(order: Order, frame: &[u8], out: &mut [u8]) -> usize
     requires { ⌜ mostAnswer ≤ length (now out) ⌝ }
     ensures { λ r. ⌜ Answered r ⌝ }
 {
@@ -78,6 +80,7 @@ pub fn answer(frame: &[u8], out: &mut [u8]) -> usize
     made(
         frame[1],
         frame[2],
+        order,
         &frame[HEAD..],
         &mut digits[..places],
         &mut marks[..words],

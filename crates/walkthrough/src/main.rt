@@ -3,6 +3,7 @@ ghost use Prim.Native.Nat.{_≤_};
 ghost use lib.ListN.{length};
 use libc::STDOUT_FILENO;
 use sarvundole::Move;
+use sarvundole::Order;
 use sarvundole::Outcome;
 use sarvundole::Ran;
 use sarvundole::Sign;
@@ -92,7 +93,14 @@ fn first_words(count: usize, words: &[u16]) -> bool {
 
 // ---- the steps; each says whether the next can be made
 fn recoded(scalar: &[u8], digits: &mut [i8], marks: &mut [u64]) -> bool {
-    let made = sarvundole::recode(sarvundole::WNAF, WIDTH, scalar, digits, marks);
+    let made = sarvundole::recode(
+        sarvundole::WNAF,
+        WIDTH,
+        Order::HighestFirst,
+        scalar,
+        digits,
+        marks,
+    );
     if made.refusal != 0 {
         refused(made.refusal, made.place);
         return false;
@@ -107,7 +115,7 @@ fn recoded(scalar: &[u8], digits: &mut [i8], marks: &mut [u64]) -> bool {
 }
 
 fn checked(scalar: &[u8], digits: &[i8]) -> bool {
-    let made = sarvundole::check_nonadjacent(WIDTH, scalar, digits);
+    let made = sarvundole::check_nonadjacent(WIDTH, Order::HighestFirst, scalar, digits);
     if made.refusal != 0 {
         refused(made.refusal, made.place);
         return false;

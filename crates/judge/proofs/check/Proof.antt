@@ -1,17 +1,22 @@
 -- `judge::check` meets its contract: each return is one answer. Assumes nothing.
-use mathlib.Core.Path.{refl, subst}
+use mathlib.Core.Path.{_≡_, refl, subst}
 use Prim.Native.Nat.{_≤_}
 use native.Mathlib.Omega.{arith}
 use borrow.Author.Needs.{needs}
 use borrow.Author.Tests.{not-true, not-false}
 use denote.Ref.{now}
+use lib.IntN.{pos}
 use Rattle.forms.proofs.Strings.{weight-le, top-le}
-use Rattle.meaning.specs.Digits.{mostPlaces, largest}
+use Rattle.meaning.specs.Scalars.{number}
+use Rattle.meaning.specs.Digits.{mostPlaces, largest, worth}
 use Rattle.meaning.specs.Refusals.{Lowest}
 use Rattle.meaning.specs.Checking.{BadDigit, checkRules}
 use Rattle.width.specs.Widths.{Wide}
+use Rattle.scalar.specs.Orders.{ordered}
 use Rattle.width.proofs.Widths.{known-largest, known-wide, known-lawful, known-bad, largest-some, width-fine}
 use Rattle.digits.specs.Scans.{Whole, Scan}
+use Rattle.scalar.proofs.Orders.{code-tells}
+use Rattle.judge.specs.Tests.{Says}
 use Rattle.judge.proofs.Tests.{said, denied}
 use Rattle.forms.proofs.Refusals.{first-none}
 use Rattle.judge.proofs.Refusals.{refuses}
@@ -45,19 +50,19 @@ returns : tie.Need-returns
 returns c =
     let k = c .before .before .before in
     let a = k .before .before .args in
-    refuses (checkRules (a .width) (now (a .scalar)) (now (a .digits))) tt (now (a .digits)) 0 0 (c .refused .ensures) (known-bad _ (k .known .ensures) (c .before .enum-told .given .1), refl)
+    refuses (checkRules (a .width) (ordered (a .order)) (now (a .scalar)) (now (a .digits))) tt (now (a .digits)) 0 0 (c .refused .ensures) (known-bad _ (k .known .ensures) (c .before .enum-told .given .1), refl)
 
 returns-2 : tie.Need-returns-2
 returns-2 c =
     let k = c .before .before .before in
     let a = k .before .before .before .before .args in
-    refuses (checkRules (a .width) (now (a .scalar)) (now (a .digits))) tt (now (a .digits)) 1 0 (c .refused2 .ensures) (width-fine (wide k), (c .before .if1 .taken, refl))
+    refuses (checkRules (a .width) (ordered (a .order)) (now (a .scalar)) (now (a .digits))) tt (now (a .digits)) 1 0 (c .refused2 .ensures) (width-fine (wide k), (c .before .if1 .taken, refl))
 
 returns-3 : tie.Need-returns-3
 returns-3 c =
     let k = c .before .before .before .before in
     let a = k .before .before .before .before .args in
-    refuses (checkRules (a .width) (now (a .scalar)) (now (a .digits))) tt (now (a .digits)) 2 0 (c .refused3 .ensures) (width-fine (wide k), ((λ l. omega (arith, c .before .before .if1 .left)), (c .before .if2 .taken, refl)))
+    refuses (checkRules (a .width) (ordered (a .order)) (now (a .scalar)) (now (a .digits))) tt (now (a .digits)) 2 0 (c .refused3 .ensures) (width-fine (wide k), ((λ l. omega (arith, c .before .before .if1 .left)), (c .before .if2 .taken, refl)))
 
 scan-requires : tie.Need-scan-requires
 scan-requires c κs =
@@ -69,14 +74,20 @@ cast-refused c =
     let b = lowest-bad (c .before) .0 in
     omega (arith, b .within, c .before .before .before .before .if2 .left)
 
+-- the worth was held against the scalar in the order that was told
+judged : (c : tie.After-worth-is) → let a = start (c .before .before .before .before .before) .args in Says (c .worth-is .result) (worth (now (a .digits)) ≡ pos (number (ordered (a .order)) (now (a .scalar))))
+judged c =
+    let a = start (c .before .before .before .before .before) .args in
+    rw (c .before .code-of .ensures, code-tells (ordered (a .order))) at (c .worth-is .ensures)
+
 returns-4 : tie.Need-returns-4
 returns-4 c =
     let v = c .before .before in
-    let n = v .before .before in
+    let n = v .before .before .before in
     let s = n .before .before in
     let a = start s .args in
-    refuses (checkRules (a .width) (now (a .scalar)) (now (a .digits))) tt (now (a .digits)) 4 0 (c .refused5 .ensures)
-    (width-fine (wide (found s)), ((λ l. omega (arith, s .before .before .if1 .left)), ((λ l. omega (arith, s .before .if2 .left)), (whole n .sound, (denied (v .worth-is .ensures) (not-true (v .worth-is .result) (c .before .if3 .taken)), refl)))))
+    refuses (checkRules (a .width) (ordered (a .order)) (now (a .scalar)) (now (a .digits))) tt (now (a .digits)) 4 0 (c .refused5 .ensures)
+    (width-fine (wide (found s)), ((λ l. omega (arith, s .before .before .if1 .left)), ((λ l. omega (arith, s .before .if2 .left)), (whole n .sound, (denied (judged v) (not-true (v .worth-is .result) (c .before .if3 .taken)), refl)))))
 
 -- the counts are those of a short string
 few : (c : tie.After-count) → (c .count .given .0 .0 .weight ≤ mostPlaces) × (c .count .given .0 .0 .top ≤ mostPlaces)
@@ -84,30 +95,30 @@ few c =
     let ds = now (start (c .before .before) .args .digits) in
     omega (arith, whole c .weight-is, whole c .top-is, weight-le ds, top-le ds, c .before .before .before .if2 .left)
 
-cast-t15 : tie.Need-cast-t15
-cast-t15 c = omega (arith, few (c .before .before .before .before))
+cast-t17 : tie.Need-cast-t17
+cast-t17 c = omega (arith, few (c .before .before .before .before .before))
 
-cast-t16 : tie.Need-cast-t16
-cast-t16 c = omega (arith, few (c .before .before .before .before .before))
+cast-t18 : tie.Need-cast-t18
+cast-t18 c = omega (arith, few (c .before .before .before .before .before .before))
 
 returns-5 : tie.Need-returns-5
 returns-5 c =
     let n = c .before .before in
     let s = n .before .before in
     let a = start s .args in
-    refuses (checkRules (a .width) (now (a .scalar)) (now (a .digits))) tt (now (a .digits)) 3 _ (c .refused4 .ensures)
+    refuses (checkRules (a .width) (ordered (a .order)) (now (a .scalar)) (now (a .digits))) tt (now (a .digits)) 3 _ (c .refused4 .ensures)
     (width-fine (wide (found s)), ((λ l. omega (arith, s .before .before .if1 .left)), ((λ l. omega (arith, s .before .if2 .left)), lowest-bad n)))
 
 returns-6 : tie.Need-returns-6
 returns-6 c =
     let v = c .before .before .before in
-    let n = v .before .before in
+    let n = v .before .before .before in
     let s = n .before .before in
     let a = start s .args in
     record {
       first =
-          first-none (checkRules (a .width) (now (a .scalar)) (now (a .digits)))
-          (width-fine (wide (found s)), ((λ l. omega (arith, s .before .before .if1 .left)), ((λ l. omega (arith, s .before .if2 .left)), (whole n .sound, ((λ h. h (said (v .worth-is .ensures) (not-false (v .worth-is .result) (c .before .before .if3 .left)))), tt)))));
+          first-none (checkRules (a .width) (ordered (a .order)) (now (a .scalar)) (now (a .digits)))
+          (width-fine (wide (found s)), ((λ l. omega (arith, s .before .before .if1 .left)), ((λ l. omega (arith, s .before .if2 .left)), (whole n .sound, ((λ h. h (said (judged v) (not-false (v .worth-is .result) (c .before .before .if3 .left)))), tt)))));
       weight-is = whole n .weight-is;
       top-is = whole n .top-is;
     }
@@ -116,5 +127,5 @@ pub check-spec : {M : Type 1} → statement M
 check-spec =
     tie.close
     (tie.spec (λ c κs. search needs) (λ c. search needs) (λ c. search needs) (λ c κs. search needs) returns (λ c κs. search needs) returns-2 (λ c κs. search needs)
-    returns-3 scan-requires (λ c. search needs) cast-refused (λ c κs. search needs) (λ c. search needs) (λ c κs. search needs) (λ c κs. search needs) returns-4 cast-t15
-    cast-t16 returns-5 returns-6)
+    returns-3 scan-requires (λ c. search needs) cast-refused (λ c κs. search needs) (λ c. search needs) (λ c κs. search needs) (λ c κs. search needs)
+    (λ c κs. search needs) returns-4 cast-t17 cast-t18 returns-5 returns-6)

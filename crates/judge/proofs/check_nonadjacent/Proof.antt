@@ -4,6 +4,7 @@ use native.Mathlib.Omega.{arith}
 use borrow.Author.Needs.{needs}
 use denote.Ref.{now}
 use Rattle.meaning.specs.Refusals.{Lowest}
+use Rattle.scalar.specs.Orders.{ordered}
 use Rattle.meaning.specs.Checking.{Crowded, nonadjacentRules}
 use Rattle.judge.specs.Spaces.{Spacing}
 use Rattle.judge.proofs.Refusals.{refuses, plain-refuses, crowded-few, until-10, plain-accepts}
@@ -25,14 +26,14 @@ returns : tie.Need-returns
 returns c =
     let k = c .before .before in
     let a = start k .args in
-    plain-refuses (a .width) (now (a .scalar)) (now (a .digits)) (k .check .ensures) (c .if1 .taken)
+    plain-refuses (a .width) (ordered (a .order)) (now (a .scalar)) (now (a .digits)) (k .check .ensures) (c .if1 .taken)
 
 cast-refused : tie.Need-cast-refused
 cast-refused c =
     let e = c .before .before .before .before in
     let k = e .before .before in
     let a = start k .args in
-    omega (arith, crowded-few (a .width) (now (a .scalar)) (now (a .digits)) (k .check .ensures) (e .if1 .left) (pair (c .before) .0))
+    omega (arith, crowded-few (a .width) (ordered (a .order)) (now (a .scalar)) (now (a .digits)) (k .check .ensures) (e .if1 .left) (pair (c .before) .0))
 
 returns-2 : tie.Need-returns-2
 returns-2 c =
@@ -40,7 +41,7 @@ returns-2 c =
     let e = p .before .before .before in
     let k = e .before .before in
     let a = start k .args in
-    refuses (nonadjacentRules (a .width) (now (a .scalar)) (now (a .digits))) tt (now (a .digits)) 5 _ (c .refused .ensures) (until-10 (a .width) (now (a .scalar)) (now (a .digits)) (k .check .ensures) (e .if1 .left) (pair p))
+    refuses (nonadjacentRules (a .width) (ordered (a .order)) (now (a .scalar)) (now (a .digits))) tt (now (a .digits)) 5 _ (c .refused .ensures) (until-10 (a .width) (ordered (a .order)) (now (a .scalar)) (now (a .digits)) (k .check .ensures) (e .if1 .left) (pair p))
 
 returns-3 : tie.Need-returns-3
 returns-3 c =
@@ -48,7 +49,7 @@ returns-3 c =
     let e = s .before in
     let k = e .before .before in
     let a = start k .args in
-    plain-accepts (a .width) (now (a .scalar)) (now (a .digits)) (k .check .ensures) (e .if1 .left)
+    plain-accepts (a .width) (ordered (a .order)) (now (a .scalar)) (now (a .digits)) (k .check .ensures) (e .if1 .left)
     (subst (Spacing (a .width) (now (a .digits))) (c .enum-told .given .1) (s .spacing .ensures))
 
 pub check-nonadjacent-spec : {M : Type 1} → statement M

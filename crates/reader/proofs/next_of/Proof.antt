@@ -134,7 +134,7 @@ module _ {M : Type 1} (𝓤 : URA M) (H : Heap 𝓤) (A : Atoms 𝓤) (W : Given
 
   -- the fields of a state
   abbrev fields : Values (S.the-type .parts)
-  fields = (d .place, (d .width, (d .pending, (d .spot, (d .floor, (d .refusal, tt))))))
+  fields = (d .place, (d .width, (d .pending, (d .spot, (d .floor, (d .refusal, (d .order, tt)))))))
 
   -- what the parameters own is had twice, and once of it the reader is made
   parts : ent 𝓤 (sem 𝓤 H A Owns) (sep 𝓤 (sem 𝓤 H A (OwnR h)) (sem 𝓤 H A Owns))
@@ -198,7 +198,7 @@ module _ {M : Type 1} (𝓤 : URA M) (H : Heap 𝓤) (A : Atoms 𝓤) (W : Given
         -- [_9; …; _8; …; _7; …; _6; …; _5; …; _4; …; _3; …; _2; …; _1; …; room for _0; …; the token; what the parameters own]
         assigns ! (agg ! (and-then ! (load ! (from ! (stop !)) (look ! 16 refl)) (and-then ! (load ! (from ! (fld ! refl (stop !))) (look-in ! 14 (sub ! 0 refl (whole !)))) (and-then ! (load ! (from ! (fld ! refl (stop !))) (look-in ! 14 (sub ! 1 refl (whole !))))
         (and-then ! (load ! (from ! (fld ! refl (stop !))) (look-in ! 14 (sub ! 2 refl (whole !)))) (and-then ! (load ! (from ! (fld ! refl (stop !))) (look-in ! 14 (sub ! 3 refl (whole !)))) (and-then ! (load ! (from ! (fld ! refl (stop !))) (look-in ! 14 (sub ! 4 refl (whole !))))
-        (and-then ! (load ! (from ! (fld ! refl (stop !))) (look-in ! 14 (sub ! 5 refl (whole !)))) (no-more !))))))))) (from ! (stop !)) (init ! 12 refl (tt, (typed .1, std .1))) $
+        (and-then ! (load ! (from ! (fld ! refl (stop !))) (look-in ! 14 (sub ! 5 refl (whole !)))) (and-then ! (load ! (from ! (fld ! refl (stop !))) (look-in ! 14 (sub ! 6 refl (whole !)))) (no-more !)))))))))) (from ! (stop !)) (init ! 12 refl (tt, (typed .1, std .1))) $
         assigns ! (addr ! (from ! (stop !))) (from ! (stop !)) (init ! 8 refl (tt, tt)) $
         -- what the local holds lies in memory, and is lent
         move ! (21 ∷ []) $ use1 W (‵ (OwnR h) ⊛ ‵ Owns) parts $ split ! $ move ! (14 ∷ 0 ∷ []) $

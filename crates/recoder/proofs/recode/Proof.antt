@@ -1,13 +1,15 @@
 -- `recoder::recode` meets its contract: a refusal leaves both buffers, and on acceptance their first places and words are written. Assumes nothing.
-use mathlib.Core.Path.{refl, sym, ap, subst}
+use mathlib.Core.Path.{_≡_, refl, sym, ap, subst, _∙_}
 use mathlib.Core.List.{_++_}
 use native.Mathlib.Omega.{arith}
 use borrow.Author.Needs.{needs}
 use lib.ListN.{length, drop}
 use lib.Seq.{length-take-le}
 use denote.Ref.{now}
-use Rattle.meaning.specs.Scalars.{number, bitCount}
+use Rattle.meaning.specs.Scalars.{number, orderOf, bitCount}
 use Rattle.meaning.specs.Forms.{Form}
+use Rattle.scalar.specs.Orders.{ordered}
+use Rattle.scalar.proofs.Orders.{code-tells}
 use Rattle.recoder.specs.Judged.{Admits, Admitted}
 use Rattle.recoder.proofs.recode.Statement.{statement}
 use Rattle.recoder.proofs.recode.Tie as tie
@@ -29,21 +31,21 @@ add-places : tie.Need-add-places
 add-places c = omega (arith, admitted c .short)
 
 slice-relend-prefix-fill : tie.Need-slice-relend-prefix-fill
-slice-relend-prefix-fill c = admitted c .room
+slice-relend-prefix-fill c = admitted (c .before) .room
 
 slice-aggregate-fill : tie.Need-slice-aggregate-fill
-slice-aggregate-fill c = sym (length-take-le _ _ (admitted (c .before) .room))
+slice-aggregate-fill c = sym (length-take-le _ _ (admitted (c .before .before) .room))
 
 slice-relend-prefix-fill-2 : tie.Need-slice-relend-prefix-fill-2
-slice-relend-prefix-fill-2 c = admitted (c .before) .marks
+slice-relend-prefix-fill-2 c = admitted (c .before .before) .marks
 
 slice-aggregate-fill-2 : tie.Need-slice-aggregate-fill-2
-slice-aggregate-fill-2 c = sym (length-take-le 9 (now (start (c .before .before) .args .marks)) (admitted (c .before .before) .marks))
+slice-aggregate-fill-2 c = sym (length-take-le 9 (now (start (c .before .before .before) .args .marks)) (admitted (c .before .before .before) .marks))
 
 fill-requires : tie.Need-fill-requires
 fill-requires c κs =
-    let A = admitted (c .before .before) in
-    (rw (A .bits-is) (A .allowed), (A .short, (length-take-le _ _ (A .room), length-take-le 9 (now (start (c .before .before) .args .marks)) (A .marks))))
+    let A = admitted (c .before .before .before) in
+    (rw (A .bits-is) (A .allowed), (A .short, (length-take-le _ _ (A .room), length-take-le 9 (now (start (c .before .before .before) .args .marks)) (A .marks))))
 
 returns : tie.Need-returns
 unfolding Admits
@@ -59,14 +61,16 @@ returns c =
 returns-2 : tie.Need-returns-2
 returns-2 c =
     let f = c .before .before .before in
-    let a = start (f .before .before .before) .args in
-    let A = admitted (f .before .before .before) in
+    let k = f .before .before .before in
+    let a = start (k .before) .args in
+    let A = admitted (k .before) in
+    let o : orderOf (k .code-of .result) ≡ ordered (a .order) = ap orderOf (k .code-of .ensures) ∙ code-tells (ordered (a .order)) in
     let W = f .fill .ensures in
     record {
       first = rw (W .accepted, W .no-place) (A .first);
       accepted = λ e. record {
-        string = f .fill .last .1 .1 .1 .0;
-        formed = subst (λ w. Form (a .form) w (number (now (a .s))) (bitCount (now (a .s))) (f .fill .last .1 .1 .1 .0)) (A .bits-is) (W .formed);
+        string = f .fill .last .1 .1 .1 .1 .0;
+        formed = subst (λ w. Form (a .form) w (number (ordered (a .order)) (now (a .s))) (bitCount (now (a .s))) (f .fill .last .1 .1 .1 .1 .0)) (A .bits-is) (rw o at (W .formed));
         digits-are = refl;
         marks-are = ap (λ x. x ++ drop 9 (now (a .marks))) (W .marks-are);
         weight-is = W .weight-is;
@@ -78,5 +82,5 @@ returns-2 c =
 pub recode-spec : {M : Type 1} → statement M
 recode-spec =
     tie.close
-    (tie.spec (λ c κs. search needs) (λ c. search needs) (λ c. search needs) mul-places add-places slice-relend-prefix-fill slice-aggregate-fill
+    (tie.spec (λ c κs. search needs) (λ c. search needs) (λ c. search needs) mul-places add-places (λ c κs. search needs) slice-relend-prefix-fill slice-aggregate-fill
     slice-relend-prefix-fill-2 slice-aggregate-fill-2 fill-requires returns (λ c. search needs) (λ c. search needs) returns-2)

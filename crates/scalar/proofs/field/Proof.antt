@@ -7,7 +7,7 @@ use native.Mathlib.Nat.{one-mul}
 use native.Mathlib.Omega.{arith}
 use lib.Dec.{lit<}
 use lib.Pow.{pow-pos, shl-exact}
-use Rattle.meaning.specs.Scalars.{number}
+use Rattle.meaning.specs.Scalars.{number, orderOf}
 use Rattle.scalar.proofs.Fields.{field-is}
 use Rattle.scalar.proofs.field.Statement.{statement}
 use Rattle.scalar.proofs.field.Tie as tie
@@ -23,7 +23,7 @@ returns : tie.Need-returns
 returns c =
     let a = c .before .before .args in
     rw (power c, c .pair .ensures)
-    (field-is (number (now (a .s))) (a .i) (a .count) (c .before .before .pre))
+    (field-is (number (orderOf (a .order)) (now (a .s))) (a .i) (a .count) (c .before .before .pre))
 
 pub field-spec : {M : Type 1} → statement M
 field-spec =

@@ -5,20 +5,20 @@ use native.Mathlib.Nat.{mod-one}
 use native.Mathlib.Omega.{arith}
 use lib.Count.{trailingZeros, trailing-le}
 use lib.ListN.{length}
-use Rattle.meaning.specs.Scalars.{number}
+use Rattle.meaning.specs.Scalars.{number, orderOf}
 use Rattle.scalar.proofs.Bytes.{number-lt}
 use Rattle.scalar.proofs.Zeros.{zeros-more, zeros-found, zeros-all}
 use Rattle.scalar.proofs.lowest.Statement.{statement}
 use Rattle.scalar.proofs.lowest.Tie as tie
 
 abbrev Inv-loop : tie.InvT-loop
-Inv-loop s q₀ q = (q ≤ length s) × (number s % 2 ^ (8 * q) ≡ 0)
+Inv-loop order s q₀ q = (q ≤ length s) × (number (orderOf order) s % 2 ^ (8 * q) ≡ 0)
 
 abbrev μ-loop : tie.MeasureT-loop
-μ-loop s q₀ q = length s - q
+μ-loop order s q₀ q = length s - q
 
 loop-holds : tie.Need-loop-holds Inv-loop μ-loop
-loop-holds c = (omega arith, mod-one (number (c .before .args .s .now)))
+loop-holds c = (omega arith, mod-one (number (orderOf (c .before .args .order)) (c .before .args .s .now)))
 
 byte-requires : tie.Need-byte-requires Inv-loop μ-loop
 byte-requires c κs = tt
@@ -57,9 +57,10 @@ mul-result-2 c = omega arith
 returns-2 : tie.Need-returns-2 Inv-loop μ-loop
 returns-2 c =
     let s = c .before .before .before .args .s .now in
+    let o = orderOf (c .before .before .before .args .order) in
     let l = c .before .loop in
     let all : l .q ≡ length s = omega arith in
-    ap (λ q. 8 * q) all ∙ zeros-all (number s) (length s) (ap (λ q. number s % 2 ^ (8 * q)) (sym all) ∙ l .inv .1) (number-lt s (λ i. c .before .before .shared-slice-known .given i .fits))
+    ap (λ q. 8 * q) all ∙ zeros-all (number o s) (length s) (ap (λ q. number o s % 2 ^ (8 * q)) (sym all) ∙ l .inv .1) (number-lt o s (λ i. c .before .before .shared-slice-known .given i .fits))
 
 pub lowest-spec : {M : Type 1} → statement M
 lowest-spec =

@@ -3,7 +3,7 @@ use mathlib.Core.Path.{_∙_}
 use denote.Ref.{now}
 use borrow.Author.Needs.{needs}
 use native.Mathlib.Omega.{arith}
-use Rattle.meaning.specs.Scalars.{number}
+use Rattle.meaning.specs.Scalars.{number, orderOf}
 use Rattle.scalar.proofs.Fields.{window-over, window-under}
 use Rattle.scalar.proofs.window.Statement.{statement}
 use Rattle.scalar.proofs.window.Tie as tie
@@ -11,12 +11,12 @@ use Rattle.scalar.proofs.window.Tie as tie
 returns : tie.Need-returns
 returns c =
     let a = c .before .before .before .args in
-    c .field .ensures ∙ window-over (number (now (a .s))) (a .i) (a .w) (c .before .if1 .taken)
+    c .field .ensures ∙ window-over (number (orderOf (a .order)) (now (a .s))) (a .i) (a .w) (c .before .if1 .taken)
 
 returns-2 : tie.Need-returns-2
 returns-2 c =
     let a = c .before .before .before .args in
-    rw (c .field2 .ensures) (window-under (number (now (a .s))) (a .i) (a .w) 32 (c .before .if1 .left) (omega arith))
+    rw (c .field2 .ensures) (window-under (number (orderOf (a .order)) (now (a .s))) (a .i) (a .w) 32 (c .before .if1 .left) (omega arith))
 
 pub window-spec : {M : Type 1} → statement M
 window-spec =

@@ -1,5 +1,5 @@
 -- `reader::Reader::next`, a method with `&mut self`, meets its contract: a walk of its MIR, by hand. The borrow is opened, `step` is called on the fields but
--- the refusal, in their order, the four numbers that it changes are stored, and the borrow is closed at the changed reader.
+-- the refusal, one after the other, the four numbers that it changes are stored, and the borrow is closed at the changed reader.
 -- A reader is Copy: what it owns is had twice, once for `step`, beside 'a's token, which comes back. Assumes nothing.
 use mathlib.Core.Path.{_≡_, refl, ap, subst}
 use Prim.Native.Nat.{ℕ}
@@ -101,7 +101,7 @@ module _ {M : Type 1} (𝓤 : URA M) (H : Heap 𝓤) (A : Atoms 𝓤) (W : Given
   L = T′.the-laws (α κ′)
 
   abbrev fields : Reader → Values (D .parts)
-  fields d = (d .scalar, (d .place, (d .width, (d .pending, (d .spot, (d .floor, (d .refusal, tt)))))))
+  fields d = (d .scalar, (d .place, (d .width, (d .pending, (d .spot, (d .floor, (d .refusal, (d .order, tt))))))))
 
   abbrev Own : Reader → Fml
   Own d = B κ′ .own d (T′.lowered d ∷ [])
@@ -114,16 +114,16 @@ module _ {M : Type 1} (𝓤 : URA M) (H : Heap 𝓤) (A : Atoms 𝓤) (W : Given
   found = call (now (h .scalar)) (stateOf h)
 
   abbrev args : Args step.signature (κ′, tt)
-  args = (h .scalar, (h .place, (h .width, (h .pending, (h .spot, (h .floor, tt))))))
+  args = (h .scalar, (h .place, (h .width, (h .pending, (h .spot, (h .floor, (h .order, tt)))))))
 
   abbrev passed : Vals step.signature (κ′, tt)
-  passed = (sliceVal (h .scalar .ptr) (length (h .scalar .now)) ∷ [], (vint w64 (h .place) ∷ [], (vint w8 (h .width) ∷ [], (vint w8 (ofZ w8 (h .pending)) ∷ [], (vint w64 (h .spot) ∷ [], (vint w64 (h .floor) ∷ [], tt))))))
+  passed = (sliceVal (h .scalar .ptr) (length (h .scalar .now)) ∷ [], (vint w64 (h .place) ∷ [], (vint w8 (h .width) ∷ [], (vint w8 (ofZ w8 (h .pending)) ∷ [], (vint w64 (h .spot) ∷ [], (vint w64 (h .floor) ∷ [], (vint w8 (h .order) ∷ [], tt)))))))
 
   abbrev to : Step 𝓤 H A at-mem run .Ghost
   to = (((κ′, tt), (q′, tt), tt, args, passed), tt)
 
   asked : ent 𝓤 (onEntry 𝓤 H A step.signature (κ′, tt) (q′, tt) args passed) (Step 𝓤 H A at-mem run .pre to)
-  asked = qed W ((‵ (flft κ′ q′) ⊛ ‵ ftrue) ∷ ‵ (owns (ShrSlice (named 0) κ′ u8 ∷ usize ∷ u8 ∷ SInt w8 ∷ usize ∷ usize ∷ []) args passed) ∷ []) ∵ join ! $ frame ! $ done !
+  asked = qed W ((‵ (flft κ′ q′) ⊛ ‵ ftrue) ∷ ‵ (owns (ShrSlice (named 0) κ′ u8 ∷ usize ∷ u8 ∷ SInt w8 ∷ usize ∷ usize ∷ u8 ∷ []) args passed) ∷ []) ∵ join ! $ frame ! $ done !
 
   apart : ent 𝓤 (⋆ 𝓤 H A ((‵ (flft κ′ q′) ⊛ ‵ ftrue) ∷ ‵ (Own h) ∷ [])) (sep 𝓤 (Step 𝓤 H A at-mem run .pre to) (sem 𝓤 H A (Own h)))
   apart =
@@ -154,7 +154,7 @@ module _ {M : Type 1} (𝓤 : URA M) (H : Heap 𝓤) (A : Atoms 𝓤) (W : Given
         let old = LL.owed D L h _ was in
         let new = LL.owed S.the-type S′.the-laws r _ is in
         qed W (‵ (Own h) ∷ []) ∵ use1 W (given (T′.lowered h ∷ [] ≡ T′.lowered h ∷ []) (‵ (All h))) (own-open 𝓤 H A W D L (fields h) (T′.lowered h)) $ learn ! (λ _. fsplit ! $ move ! (1 ∷ []) $ drop ! $
-        nothing ! $ owned ! u8 (Is u8) (uint-makes 𝓤 H A W w8) (h .refusal) _ (refl, old .1 .1 .1 .1 .1 .1 .0 .1) $ fjoin ! $
+        nothing ! $ owned ! u8 (Is u8) (uint-makes 𝓤 H A W w8) (h .order) _ (refl, old .1 .1 .1 .1 .1 .1 .1 .0 .1) $ fjoin ! $ owned ! u8 (Is u8) (uint-makes 𝓤 H A W w8) (h .refusal) _ (refl, old .1 .1 .1 .1 .1 .1 .0 .1) $ fjoin ! $
         owned ! usize (Is usize) (uint-makes 𝓤 H A W w64) (r .floor) _ (refl, new .1 .1 .1 .1 .0 .1) $ fjoin ! $ owned ! usize (Is usize) (uint-makes 𝓤 H A W w64) (r .spot) _ (refl, new .1 .1 .1 .0 .1) $ fjoin ! $
         owned ! (SInt w8) (Is (SInt w8)) (sint-makes 𝓤 H A W w8) (r .pending) _ (refl, new .1 .1 .0 .1) $ fjoin ! $ owned ! u8 (Is u8) (uint-makes 𝓤 H A W w8) (h .width) _ (refl, old .1 .1 .0 .1) $ fjoin ! $
         owned ! usize (Is usize) (uint-makes 𝓤 H A W w64) (r .place) _ (refl, new .1 .0 .1) $ fjoin ! $ move ! (1 ∷ 0 ∷ []) $ fjoin ! $ by ! (own-shut 𝓤 H A W D L (fields h′)))
@@ -173,45 +173,46 @@ module _ {M : Type 1} (𝓤 : URA M) (H : Heap 𝓤) (A : Atoms 𝓤) (W : Given
     walk : ent 𝓤 (onEntry 𝓤 H A next.signature (κ, (κ′, tt)) (q, (q′, tt)) x at) (WpFn 𝓤 H C Λ code.function (vptr b o ∷ []) Post)
     walk =
         qed W ((‵ (flft κ q) ⊛ ‵ (flft κ′ q′) ⊛ ‵ ftrue) ∷ ‵ (owns (MutRef (named 0) κ (B κ′) ∷ []) x at) ∷ []) ∵ enter ! C Λ code.function (vptr b o ∷ []) _ $
-        alloc1 ! (λ l₀. alloc1 ! (λ l₁. alloc1 ! (λ l₂. alloc1 ! (λ l₃. alloc1 ! (λ l₄. alloc1 ! (λ l₅. alloc1 ! (λ l₆. alloc1 ! (λ l₇. alloc1 ! (λ l₈. alloc0 ! $ params1 ! $ pass1 ! (init ! 14 refl (tt, tt)) $ pass0 ! $
+        alloc1 ! (λ l₀. alloc1 ! (λ l₁. alloc1 ! (λ l₂. alloc1 ! (λ l₃. alloc1 ! (λ l₄. alloc1 ! (λ l₅. alloc1 ! (λ l₆. alloc1 ! (λ l₇. alloc1 ! (λ l₈. alloc1 ! (λ l₉. alloc0 ! $ params1 ! $ pass1 ! (init ! 16 refl (tt, tt)) $ pass0 ! $
         -- the borrow is opened
-        move ! (19 ∷ []) $ fsplit ! $ fsplit3 ! $ drop ! $ move ! (21 ∷ []) $ split ! $ move ! (2 ∷ 3 ∷ 0 ∷ []) $
+        move ! (21 ∷ []) $ fsplit ! $ fsplit3 ! $ drop ! $ move ! (23 ∷ []) $ split ! $ move ! (2 ∷ 3 ∷ 0 ∷ []) $
         opens ! tt (B κ′) {h = h} b o (λ vs. spelt ! (B κ′) (Is (B κ′)) (shows 𝓤 H A (B κ′)) (LL.vals D L) (LL.tells D L) fullShare h vs b o $
         use1 W (‵ (fat fullShare (T′.mir erased) b o (T′.lowered h))) (W .laws .raw-at fullShare (T′.mir erased) b o (T′.lowered h)) $
         move ! (1 ∷ []) $ peeks ! (B κ′) (Is (B κ′)) (shows 𝓤 H A (B κ′)) h (T′.lowered h ∷ []) (λ was. move ! (1 ∷ 0 ∷ []) $
-        -- [the struct's cell; what a Reader owns; the open borrow; obs; auth; 'a's token; nothing; _8; …; _7; …; _6; …; _5; …; _4; …; _3; …; _2; …; _1; …; room for _0; …]
+        -- [the struct's cell; what a Reader owns; the open borrow; obs; auth; 'a's token; nothing; _9; …; _8; …; _7; …; _6; …; _5; …; _4; …; _3; …; _2; …; _1; …; room for _0; …]
         let wt = LL.lawful D L 𝓤 H A W .typed h _ was .0 .1 in
-        assigns ! (of-opd ! (load ! (from ! (hop ! (look ! 21 refl) (fld ! refl (stop !)))) (look-in ! 0 (sub ! 0 refl (whole !))))) (from ! (stop !)) (init ! 17 refl (tt, wt .0)) $
-        assigns ! (of-opd ! (load ! (from ! (hop ! (look ! 21 refl) (fld ! refl (stop !)))) (look-in ! 0 (sub ! 1 refl (whole !))))) (from ! (stop !)) (init ! 15 refl (tt, wt .1 .0)) $
-        assigns ! (of-opd ! (load ! (from ! (hop ! (look ! 21 refl) (fld ! refl (stop !)))) (look-in ! 0 (sub ! 2 refl (whole !))))) (from ! (stop !)) (init ! 13 refl (tt, wt .1 .1 .0)) $
-        assigns ! (of-opd ! (load ! (from ! (hop ! (look ! 21 refl) (fld ! refl (stop !)))) (look-in ! 0 (sub ! 3 refl (whole !))))) (from ! (stop !)) (init ! 11 refl (tt, wt .1 .1 .1 .0)) $
-        assigns ! (of-opd ! (load ! (from ! (hop ! (look ! 21 refl) (fld ! refl (stop !)))) (look-in ! 0 (sub ! 4 refl (whole !))))) (from ! (stop !)) (init ! 9 refl (tt, wt .1 .1 .1 .1 .0)) $
-        assigns ! (of-opd ! (load ! (from ! (hop ! (look ! 21 refl) (fld ! refl (stop !)))) (look-in ! 0 (sub ! 5 refl (whole !))))) (from ! (stop !)) (init ! 7 refl (tt, wt .1 .1 .1 .1 .1 .0)) $
+        assigns ! (of-opd ! (load ! (from ! (hop ! (look ! 23 refl) (fld ! refl (stop !)))) (look-in ! 0 (sub ! 0 refl (whole !))))) (from ! (stop !)) (init ! 19 refl (tt, wt .0)) $
+        assigns ! (of-opd ! (load ! (from ! (hop ! (look ! 23 refl) (fld ! refl (stop !)))) (look-in ! 0 (sub ! 1 refl (whole !))))) (from ! (stop !)) (init ! 17 refl (tt, wt .1 .0)) $
+        assigns ! (of-opd ! (load ! (from ! (hop ! (look ! 23 refl) (fld ! refl (stop !)))) (look-in ! 0 (sub ! 2 refl (whole !))))) (from ! (stop !)) (init ! 15 refl (tt, wt .1 .1 .0)) $
+        assigns ! (of-opd ! (load ! (from ! (hop ! (look ! 23 refl) (fld ! refl (stop !)))) (look-in ! 0 (sub ! 3 refl (whole !))))) (from ! (stop !)) (init ! 13 refl (tt, wt .1 .1 .1 .0)) $
+        assigns ! (of-opd ! (load ! (from ! (hop ! (look ! 23 refl) (fld ! refl (stop !)))) (look-in ! 0 (sub ! 4 refl (whole !))))) (from ! (stop !)) (init ! 11 refl (tt, wt .1 .1 .1 .1 .0)) $
+        assigns ! (of-opd ! (load ! (from ! (hop ! (look ! 23 refl) (fld ! refl (stop !)))) (look-in ! 0 (sub ! 5 refl (whole !))))) (from ! (stop !)) (init ! 9 refl (tt, wt .1 .1 .1 .1 .1 .0)) $
+        assigns ! (of-opd ! (load ! (from ! (hop ! (look ! 23 refl) (fld ! refl (stop !)))) (look-in ! 0 (sub ! 7 refl (whole !))))) (from ! (stop !)) (init ! 7 refl (tt, wt .1 .1 .1 .1 .1 .1 .1 .0)) $
         move ! (5 ∷ 1 ∷ []) $ use2 W (raw (Step 𝓤 H A at-mem run .pre to) ⊛ ‵ (Own h)) apart $ split ! $
-        -- [what the callee asks; what a Reader owns; the cell; the open borrow; obs; auth; nothing; _8; …]
-        calls-at ! fm (Step 𝓤 H A at-mem run) known to (and-then ! (load ! (from ! (stop !)) (look ! 17 refl)) (and-then ! (load ! (from ! (stop !)) (look ! 15 refl)) (and-then ! (load ! (from ! (stop !)) (look ! 13 refl)) (and-then ! (load ! (from ! (stop !)) (look ! 11 refl)) (and-then ! (load ! (from ! (stop !)) (look ! 9 refl)) (and-then ! (load ! (from ! (stop !)) (look ! 7 refl)) (no-more !))))))) (λ u.
+        -- [what the callee asks; what a Reader owns; the cell; the open borrow; obs; auth; nothing; _9; …]
+        calls-at ! fm (Step 𝓤 H A at-mem run) known to (and-then ! (load ! (from ! (stop !)) (look ! 19 refl)) (and-then ! (load ! (from ! (stop !)) (look ! 17 refl)) (and-then ! (load ! (from ! (stop !)) (look ! 15 refl)) (and-then ! (load ! (from ! (stop !)) (look ! 13 refl)) (and-then ! (load ! (from ! (stop !)) (look ! 11 refl)) (and-then ! (load ! (from ! (stop !)) (look ! 9 refl)) (and-then ! (load ! (from ! (stop !)) (look ! 7 refl)) (no-more !)))))))) (λ u.
         use1 W (later (some (λ (r : Taken). ((‵ (flft κ′ q′) ⊛ ‵ ftrue) ⊛ ‵ (S.the-row .own r (u ∷ []))) ⊛ raw (ensured 𝓤 H A step.ended (step.clauses 𝓤 H A at-mem run) (κ′, tt) args tt r)))) (id⊢ 𝓤 _) $ await ! tt $ pick ! (λ r.
         split ! $ move ! (1 ∷ []) $ use1 W (raw (fact 𝓤 (r ≡ found))) (said r) $ heard ! (r ≡ found) (λ e. split ! $ move ! (1 ∷ []) $
-        -- [the result; 'a's token; what a Reader owns; the cell; the open borrow; obs; auth; nothing; _8; …; _7; …; _6; …; _5; …; _4; …; _3; …; _2; …; _1; …; room for _0; …]
+        -- [the result; 'a's token; what a Reader owns; the cell; the open borrow; obs; auth; nothing; _9; …; _8; …; _7; …; _6; …; _5; …; _4; …; _3; …; _2; …; _1; …; room for _0; …]
         peeks ! S.the-row (Is S.the-row) (shows 𝓤 H A S.the-row) r (u ∷ []) (λ was′.
         let same : (u ∷ []) ≡ (mach r ∷ []) = LL.tells S.the-type S′.the-laws r (u ∷ []) was′ in
         let is : Is S.the-row r (mach r ∷ []) = subst (λ (vs : List Val). Is S.the-row r vs) same was′ in
         let rt = LL.lawful S.the-type S′.the-laws 𝓤 H A W .typed r _ is .0 .1 in
-        land ! (from ! (stop !)) (init ! 20 refl (LL.lawful S.the-type S′.the-laws 𝓤 H A W .typed r _ was′ .0)) $
-        rewrite ! 20 (λ (w : Val). ‵ (fat fullShare S′.mir l₂ 0 w)) (ap only same) refl $ rewrite ! 0 (λ (w : Val). ‵ (S.the-row .own r (w ∷ []))) (ap only same) refl $
-        assigns ! (of-opd ! (load ! (from ! (fld ! refl (stop !))) (look-in ! 20 (sub ! 1 refl (whole !))))) (from ! (hop ! (look ! 22 refl) (fld ! refl (stop !)))) (store-in ! 3 (sub ! 1 refl (whole !)) (tt, rt .1 .0)) $
-        assigns ! (of-opd ! (load ! (from ! (fld ! refl (stop !))) (look-in ! 20 (sub ! 2 refl (whole !))))) (from ! (hop ! (look ! 22 refl) (fld ! refl (stop !)))) (store-in ! 3 (sub ! 3 refl (whole !)) (tt, rt .1 .1 .0)) $
-        assigns ! (of-opd ! (load ! (from ! (fld ! refl (stop !))) (look-in ! 20 (sub ! 3 refl (whole !))))) (from ! (hop ! (look ! 22 refl) (fld ! refl (stop !)))) (store-in ! 3 (sub ! 4 refl (whole !)) (tt, rt .1 .1 .1 .0)) $
-        assigns ! (of-opd ! (load ! (from ! (fld ! refl (stop !))) (look-in ! 20 (sub ! 4 refl (whole !))))) (from ! (hop ! (look ! 22 refl) (fld ! refl (stop !)))) (store-in ! 3 (sub ! 5 refl (whole !)) (tt, rt .1 .1 .1 .1 .0)) $
-        assigns ! (of-opd ! (load ! (from ! (fld ! refl (stop !))) (look-in ! 20 (sub ! 0 refl (whole !))))) (from ! (stop !)) (init ! 24 refl (N′.the-field-laws .lawful 𝓤 H A W .typed (S.the-type .to r .0) _ (LL.owed S.the-type S′.the-laws r _ is .0) .0)) $
+        land ! (from ! (stop !)) (init ! 22 refl (LL.lawful S.the-type S′.the-laws 𝓤 H A W .typed r _ was′ .0)) $
+        rewrite ! 22 (λ (w : Val). ‵ (fat fullShare S′.mir l₂ 0 w)) (ap only same) refl $ rewrite ! 0 (λ (w : Val). ‵ (S.the-row .own r (w ∷ []))) (ap only same) refl $
+        assigns ! (of-opd ! (load ! (from ! (fld ! refl (stop !))) (look-in ! 22 (sub ! 1 refl (whole !))))) (from ! (hop ! (look ! 24 refl) (fld ! refl (stop !)))) (store-in ! 3 (sub ! 1 refl (whole !)) (tt, rt .1 .0)) $
+        assigns ! (of-opd ! (load ! (from ! (fld ! refl (stop !))) (look-in ! 22 (sub ! 2 refl (whole !))))) (from ! (hop ! (look ! 24 refl) (fld ! refl (stop !)))) (store-in ! 3 (sub ! 3 refl (whole !)) (tt, rt .1 .1 .0)) $
+        assigns ! (of-opd ! (load ! (from ! (fld ! refl (stop !))) (look-in ! 22 (sub ! 3 refl (whole !))))) (from ! (hop ! (look ! 24 refl) (fld ! refl (stop !)))) (store-in ! 3 (sub ! 4 refl (whole !)) (tt, rt .1 .1 .1 .0)) $
+        assigns ! (of-opd ! (load ! (from ! (fld ! refl (stop !))) (look-in ! 22 (sub ! 4 refl (whole !))))) (from ! (hop ! (look ! 24 refl) (fld ! refl (stop !)))) (store-in ! 3 (sub ! 5 refl (whole !)) (tt, rt .1 .1 .1 .1 .0)) $
+        assigns ! (of-opd ! (load ! (from ! (fld ! refl (stop !))) (look-in ! 22 (sub ! 0 refl (whole !))))) (from ! (stop !)) (init ! 26 refl (N′.the-field-laws .lawful 𝓤 H A W .typed (S.the-type .to r .0) _ (LL.owed S.the-type S′.the-laws r _ is .0) .0)) $
         -- the borrow is closed at the changed struct
         move ! (2 ∷ []) $ use1 W (‵ (Own (h′ r))) (again r was is) $
         move ! (3 ∷ []) $ use1 W (‵ (cellAt fullShare (B κ′ .mir) (T′.lowered (h′ r) ∷ []) b o)) (W .laws .at-raw fullShare (T′.mir erased) b o (T′.lowered (h′ r))) $
         move ! (0 ∷ 1 ∷ 4 ∷ 5 ∷ 6 ∷ []) $ closes ! tt (B κ′) (h′ r) (T′.lowered (h′ r) ∷ []) b o $
-        -- [obs; the borrow; the token; the result; 'a's token; nothing; _8; …]
-        returns ! (look ! 22 refl) $ forget ! 6 refl $ forget ! 8 refl $ forget ! 10 refl $ forget ! 12 refl $ forget ! 14 refl $ forget ! 16 refl $ forget ! 18 refl $ forget ! 20 refl $ forget ! 22 refl $
-        move ! (22 ∷ 23 ∷ []) $ free1 ! $ move ! (20 ∷ 21 ∷ []) $ free1 ! $ move ! (18 ∷ 19 ∷ []) $ free1 ! $ move ! (16 ∷ 17 ∷ []) $ free1 ! $ move ! (14 ∷ 15 ∷ []) $ free1 ! $ move ! (12 ∷ 13 ∷ []) $ free1 ! $ move ! (10 ∷ 11 ∷ []) $ free1 ! $ move ! (8 ∷ 9 ∷ []) $ free1 ! $ move ! (6 ∷ 7 ∷ []) $ free1 ! $ free0 ! $
-        keep ! (0 ∷ 1 ∷ 2 ∷ 3 ∷ 4 ∷ []) $ by ! (exits r e))))))))))))))))
+        -- [obs; the borrow; the token; the result; 'a's token; nothing; _9; …]
+        returns ! (look ! 24 refl) $ forget ! 6 refl $ forget ! 8 refl $ forget ! 10 refl $ forget ! 12 refl $ forget ! 14 refl $ forget ! 16 refl $ forget ! 18 refl $ forget ! 20 refl $ forget ! 22 refl $ forget ! 24 refl $
+        move ! (24 ∷ 25 ∷ []) $ free1 ! $ move ! (22 ∷ 23 ∷ []) $ free1 ! $ move ! (20 ∷ 21 ∷ []) $ free1 ! $ move ! (18 ∷ 19 ∷ []) $ free1 ! $ move ! (16 ∷ 17 ∷ []) $ free1 ! $ move ! (14 ∷ 15 ∷ []) $ free1 ! $ move ! (12 ∷ 13 ∷ []) $ free1 ! $ move ! (10 ∷ 11 ∷ []) $ free1 ! $ move ! (8 ∷ 9 ∷ []) $ free1 ! $ move ! (6 ∷ 7 ∷ []) $ free1 ! $ free0 ! $
+        keep ! (0 ∷ 1 ∷ 2 ∷ 3 ∷ 4 ∷ []) $ by ! (exits r e)))))))))))))))))
 
 module _ {M : Type 1} (𝓤 : URA M) (H : Heap 𝓤) (A : Atoms 𝓤) (W : Given 𝓤 H A) (mem : Memory → SProp 𝓤) (run : Routine → Fun 𝓤) where
   next-walks : (C : Calls 𝓤 H) (Λ : Loops 𝓤 H) → FmC 𝓤 H (W .laws) C → Triple 𝓤 (C #reader·step) (Step 𝓤 H A mem run) → Walks 𝓤 H A next.ended stayed (WpFn 𝓤 H C Λ code.function) (next.clauses 𝓤 H A mem run)

@@ -8,7 +8,7 @@ use lib.ListN.{length, set}
 use denote.Ref.{now}
 use mir.Syntax.{w8}
 use mir.Facts.{toZ-ofZ}
-use Rattle.meaning.specs.Scalars.{number, bit, below}
+use Rattle.meaning.specs.Scalars.{number, orderOf, bit, below}
 use Rattle.meaning.specs.Recoding.{marksOf}
 use Rattle.meaning.specs.Windows.{windowBits, twos, oddPart}
 use Rattle.meaning.specs.Wmof.{windowAt}
@@ -23,11 +23,11 @@ use Rattle.recoder.proofs.descending.advance.Statement.{statement}
 use Rattle.recoder.proofs.descending.advance.Tie as tie
 
 abbrev Inv-loop : tie.InvT-loop
-Inv-loop w s from floor digits₀ marks₀ tail lowest x opens₀ left₀ digits marks opens left =
-    Down w (number s) lowest x floor from digits₀ opens left digits × (marks ≡ marksOf digits)
+Inv-loop w order s from floor digits₀ marks₀ tail lowest x opens₀ left₀ digits marks opens left =
+    Down w (number (orderOf order) s) lowest x floor from digits₀ opens left digits × (marks ≡ marksOf digits)
 
 abbrev μ-loop : tie.MeasureT-loop
-μ-loop w s from floor digits₀ marks₀ tail lowest x opens₀ left₀ digits marks opens left = left
+μ-loop w order s from floor digits₀ marks₀ tail lowest x opens₀ left₀ digits marks opens left = left
 
 -- what the function was called with, and what it found before the loop
 abbrev start : tie.At-loop Inv-loop μ-loop → tie.Start Inv-loop μ-loop
@@ -44,7 +44,7 @@ two l = start l .pre .0 .0
 
 same : (l : tie.At-loop Inv-loop μ-loop)
     → let a = start l .args in
-    x l % 2 ^ 56 ≡ number (now (a .s)) * 2 ^ a .w / 2 ^ lowest l % 2 ^ 56
+    x l % 2 ^ 56 ≡ number (orderOf (a .order)) (now (a .s)) * 2 ^ a .w / 2 ^ lowest l % 2 ^ 56
 same l = l .before .before .stretch-under .ensures
 
 bounds : (l : tie.At-loop Inv-loop μ-loop) → (start l .args .floor ≤ lowest l) × (lowest l < start l .args .from) × (start l .args .from + start l .args .w ≤ lowest l + 56)
@@ -72,33 +72,33 @@ under : (c : tie.After-window Inv-loop μ-loop) → at c < turn c .loop .left
 under c = let l = turn c in down-under (two l) (same l) (bounds l) (l .loop .inv .0) (r c) (top c)
 
 -- the window
-seen : (c : tie.After-window Inv-loop μ-loop) → let a = start (turn c) .args in c .window .result ≡ windowBits (a .w) (number (now (a .s))) (at c)
+seen : (c : tie.After-window Inv-loop μ-loop) → let a = start (turn c) .args in c .window .result ≡ windowBits (a .w) (number (orderOf (a .order)) (now (a .s))) (at c)
 seen c = let l = turn c in c .window .ensures ∙ down-seen (two l) (same l) (bounds l) (l .loop .inv .0) (r c) (top c)
 
-differ : (c : tie.After-window Inv-loop μ-loop) → let N = number (now (start (turn c) .args .s)) in bit N (at c) ≢ below N (at c)
+differ : (c : tie.After-window Inv-loop μ-loop) → let N = number (orderOf (start (turn c) .args .order)) (now (start (turn c) .args .s)) in bit N (at c) ≢ below N (at c)
 differ c = let l = turn c in down-opens (two l) (same l) (bounds l) (l .loop .inv .0) (r c) (top c)
 
 -- is worked out
 found : (c : tie.After-work-out Inv-loop μ-loop)
     → let o = c .before in
     let a = start (turn o) .args in
-    let v = windowAt (a .w) (number (now (a .s))) (at o) in
+    let v = windowAt (a .w) (number (orderOf (a .order)) (now (a .s))) (at o) in
     Parts (a .w) (oddPart (a .w) v) (twos (a .w) v) (c .work-out .result)
 found c =
     let o = c .before in
     let a = start (turn o) .args in
-    worked (a .w) (number (now (a .s))) (at o) (o .window .result) (two (turn o)) (seen o) (c .work-out .ensures)
+    worked (a .w) (number (orderOf (a .order)) (now (a .s))) (at o) (o .window .result) (two (turn o)) (seen o) (c .work-out .ensures)
 
 -- its digit
 digit : (c : tie.After-placed Inv-loop μ-loop)
     → let o = c .before .before in
     let a = start (turn o) .args in
-    Puts (a .w) (at o) (windowAt (a .w) (number (now (a .s))) (at o)) (c .placed .result)
+    Puts (a .w) (at o) (windowAt (a .w) (number (orderOf (a .order)) (now (a .s))) (at o)) (c .placed .result)
 digit c =
     let o = c .before .before in
     let a = start (turn o) .args in
     let e : a .w - 1 + 1 ≡ a .w = omega (arith, two (turn o)) in
-    puts (at o) (windowAt (a .w) (number (now (a .s))) (at o)) (omega arith) (found (c .before)) (subst (λ w. Placed w (c .before .work-out .result) (at o + 1) (c .placed .result)) e (c .placed .ensures))
+    puts (at o) (windowAt (a .w) (number (orderOf (a .order)) (now (a .s))) (at o)) (omega arith) (found (c .before)) (subst (λ w. Placed w (c .before .work-out .result) (at o + 1) (c .placed .result)) e (c .placed .ensures))
 
 -- is put
 stored : (c : tie.After-put Inv-loop μ-loop)
@@ -145,7 +145,7 @@ work-out-requires : tie.Need-work-out-requires Inv-loop μ-loop
 work-out-requires c κs =
     let l = turn c in
     let w = start l .args .w in
-    let N = number (now (start l .args .s)) in
+    let N = number (orderOf (start l .args .order)) (now (start l .args .s)) in
     (start l .pre .0, (rw (seen c) (opened-lt w N (at c)), (rw (seen c) (opened w N (at c) (two l) (differ c)), omega arith)))
 
 cast-placed : tie.Need-cast-placed Inv-loop μ-loop
@@ -159,7 +159,7 @@ placed-requires c κs =
     let o = c .before in
     let l = turn o in
     let f = found c in
-    omega (arith, under o, few l, f .twos-is, f .few, opened-at (start l .args .w) (number (now (start l .args .s))) (at o) (two l) (differ o) .over)
+    omega (arith, under o, few l, f .twos-is, f .few, opened-at (start l .args .w) (number (orderOf (start l .args .order)) (now (start l .args .s))) (at o) (two l) (differ o) .over)
 
 put-requires : tie.Need-put-requires Inv-loop μ-loop
 put-requires c κs =
@@ -168,7 +168,7 @@ put-requires c κs =
     let l = turn o in
     let g = l .loop .inv .0 .swept in
     let r = p .placed .result in
-    let t = opened-at (start l .args .w) (number (now (start l .args .s))) (at o) (two l) (differ o) in
+    let t = opened-at (start l .args .w) (number (orderOf (start l .args .order)) (now (start l .args .s))) (at o) (two l) (differ o) in
     let spot : r .spot < l .loop .left = omega (arith, digit p .spot-is, t .under, under o) in
     let unit = toZ-ofZ {w = w8} {z = r .unit} (sfits-of (c .struct-told .given .1 .0 .1)) ∙ digit p .unit-is in
     let m = start l .pre .1 .0 in

@@ -3,7 +3,7 @@ use mathlib.Core.Path.{_≡_, sym, ap, _∙_}
 use native.Mathlib.Omega.{arith}
 use denote.Ref.{now}
 use lib.ListN.{length}
-use Rattle.meaning.specs.Scalars.{number}
+use Rattle.meaning.specs.Scalars.{number, orderOf}
 use Rattle.meaning.specs.Recoding.{marksOf}
 use Rattle.recoder.specs.Sweeps.{Swept}
 use Rattle.recoder.proofs.Marking.{marks-length}
@@ -12,10 +12,10 @@ use Rattle.recoder.proofs.descending.sweep.Statement.{statement}
 use Rattle.recoder.proofs.descending.sweep.Tie as tie
 
 abbrev Inv-loop : tie.InvT-loop
-Inv-loop w s from floor digits₀ marks₀ left₀ digits marks left = Swept w (number s) floor from digits₀ left digits × (marks ≡ marksOf digits)
+Inv-loop w order s from floor digits₀ marks₀ left₀ digits marks left = Swept w (number (orderOf order) s) floor from digits₀ left digits × (marks ≡ marksOf digits)
 
 abbrev μ-loop : tie.MeasureT-loop
-μ-loop w s from floor digits₀ marks₀ left₀ digits marks left = left
+μ-loop w order s from floor digits₀ marks₀ left₀ digits marks left = left
 
 -- what the function was called with
 abbrev start : tie.At-loop Inv-loop μ-loop → tie.Start Inv-loop μ-loop

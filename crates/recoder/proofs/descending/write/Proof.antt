@@ -12,7 +12,7 @@ use lib.IntN.{ℤ, pos, natAbs, _-ℤ_}
 use lib.ListN.{length, set, replicate}
 use mir.Syntax.{w8}
 use mir.Facts.{toZ-ofZ}
-use Rattle.meaning.specs.Scalars.{number, bitCount, bit, below}
+use Rattle.meaning.specs.Scalars.{number, orderOf, bitCount, bit, below}
 use Rattle.meaning.specs.Windows.{windowBits, twos, oddPart}
 use Rattle.meaning.specs.Wmof.{windowAt}
 use Rattle.meaning.specs.Closest.{larger}
@@ -35,7 +35,7 @@ abbrev start : tie.After-turns → tie.Start
 start o = o .before .before .before .before .before .before .before .before .before .before .before
 
 abbrev N : tie.After-turns → ℕ
-N o = number (now (start o .args .s))
+N o = number (orderOf (start o .args .order)) (now (start o .args .s))
 
 abbrev n : tie.After-turns → ℕ
 n o = bitCount (now (start o .args .s))
@@ -59,7 +59,7 @@ seen : (o : tie.After-turns) → o .before .window .result ≡ windowBits (start
 seen o = o .before .window .ensures
 
 small : (o : tie.After-turns) → N o < 2 ^ n o
-small o = number-lt (now (start o .args .s)) (λ i. o .before .before .before .before .before .before .before .before .before .before .shared-slice-known .given i .fits)
+small o = number-lt (orderOf (start o .args .order)) (now (start o .args .s)) (λ i. o .before .before .before .before .before .before .before .before .before .before .shared-slice-known .given i .fits)
 
 low-is : (o : tie.After-turns) → 0 < N o → Lowest (N o) (low o)
 low-is o h = subst (Lowest (N o)) (sym (o .before .before .lowest .ensures)) (lowest-of larger (start o .args .w) (N o) (n o) (two o) (small o) h)
@@ -68,7 +68,7 @@ low-is o h = subst (Lowest (N o)) (sym (o .before .before .lowest .ensures)) (lo
 few : (l : tie.After-lowest) → let s = l .before .before .before .before .before .before .before .before .before in l .lowest .result + s .args .w ≤ 536
 few l =
     let s = l .before .before .before .before .before .before .before .before .before in
-    omega (arith, s .pre .0, s .pre .1 .0, l .lowest .ensures, trailing-le (bitCount (now (s .args .s))) (number (now (s .args .s))))
+    omega (arith, s .pre .0, s .pre .1 .0, l .lowest .ensures, trailing-le (bitCount (now (s .args .s))) (number (orderOf (s .args .order)) (now (s .args .s))))
 
 -- zeros
 zeros : (o : tie.After-turns)
@@ -154,7 +154,7 @@ abbrev left : tie.Else2 → ℕ
 left c = come c .sweep2 .result
 
 abbrev kept : tie.Else2 → List ℤ
-kept c = come c .sweep2 .last .1 .1 .1 .1 .0
+kept c = come c .sweep2 .last .1 .1 .1 .1 .1 .0
 
 above : (c : tie.Else2) → suc (place (told (come c))) ≡ left c
 above c = omega (arith, come c .sweep2 .ensures .0, c .if2 .left)

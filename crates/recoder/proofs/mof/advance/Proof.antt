@@ -8,7 +8,7 @@ use denote.Ref.{now}
 use lib.ListN.{length, set}
 use lib.Pow.{pow-pos}
 use mir.Facts.{toZ-ofZ}
-use Rattle.meaning.specs.Scalars.{number, bitCount}
+use Rattle.meaning.specs.Scalars.{number, orderOf, bitCount}
 use Rattle.meaning.specs.Recoding.{marksOf}
 use Rattle.recoder.proofs.Marking.{marks-length}
 use Rattle.recoder.proofs.Sweeping.{Told, told-end, told-under, told-digit, told-nonzero, told-put}
@@ -16,10 +16,10 @@ use Rattle.recoder.proofs.mof.advance.Statement.{statement}
 use Rattle.recoder.proofs.mof.advance.Tie as tie
 
 abbrev Inv-loop : tie.InvT-loop
-Inv-loop s from digits₀ marks₀ lowest x opens₀ digits marks opens = Told (number s) (bitCount s) lowest x opens digits × (marks ≡ marksOf digits)
+Inv-loop order s from digits₀ marks₀ lowest x opens₀ digits marks opens = Told (number (orderOf order) s) (bitCount s) lowest x opens digits × (marks ≡ marksOf digits)
 
 abbrev μ-loop : tie.MeasureT-loop
-μ-loop s from digits₀ marks₀ lowest x opens₀ digits marks opens = opens
+μ-loop order s from digits₀ marks₀ lowest x opens₀ digits marks opens = opens
 
 -- what the function was called with, and what it found before the loop
 abbrev start : tie.At-loop Inv-loop μ-loop → tie.Start Inv-loop μ-loop
@@ -28,7 +28,7 @@ start l = l .before .before .before .before .before .before
 abbrev lowest : tie.At-loop Inv-loop μ-loop → ℕ
 lowest l = l .before .before .before .lowest-place .result
 
-same : (l : tie.At-loop Inv-loop μ-loop) → l .before .before .stretch-under .result % 2 ^ 56 ≡ number (now (start l .args .s)) * 2 ^ 1 / 2 ^ lowest l % 2 ^ 56
+same : (l : tie.At-loop Inv-loop μ-loop) → l .before .before .stretch-under .result % 2 ^ 56 ≡ number (orderOf (start l .args .order)) (now (start l .args .s)) * 2 ^ 1 / 2 ^ lowest l % 2 ^ 56
 same l = l .before .before .stretch-under .ensures
 
 -- ---- a turn, where a place is found

@@ -4,7 +4,7 @@ use native.Mathlib.Omega.{arith}
 use borrow.Author.Needs.{needs}
 use denote.Ref.{now}
 use lib.ListN.{length}
-use Rattle.meaning.specs.Scalars.{number, bitCount}
+use Rattle.meaning.specs.Scalars.{number, orderOf, bitCount}
 use Rattle.meaning.specs.Recoding.{marksOf}
 use Rattle.recoder.specs.Sweeps.{Above}
 use Rattle.recoder.proofs.Marking.{marks-length}
@@ -13,10 +13,10 @@ use Rattle.recoder.proofs.mof.write.Statement.{statement}
 use Rattle.recoder.proofs.mof.write.Tie as tie
 
 abbrev Inv-loop : tie.InvT-loop
-Inv-loop s digits₀ marks₀ left₀ digits marks left = Above (number s) (bitCount s) left digits × (marks ≡ marksOf digits)
+Inv-loop order s digits₀ marks₀ left₀ digits marks left = Above (number (orderOf order) s) (bitCount s) left digits × (marks ≡ marksOf digits)
 
 abbrev μ-loop : tie.MeasureT-loop
-μ-loop s digits₀ marks₀ left₀ digits marks left = left
+μ-loop order s digits₀ marks₀ left₀ digits marks left = left
 
 -- what the function was called with
 abbrev start : tie.At-loop Inv-loop μ-loop → tie.Start Inv-loop μ-loop
@@ -52,9 +52,9 @@ same-length-2 c = let l = c .before in ap length (l .loop .inv .1) ∙ marks-len
 returns : tie.Need-returns Inv-loop μ-loop
 returns c =
     let l = c .before .loop in
-    let s = start (c .before) .args .s in
+    let a = start (c .before) .args in
     let none : l .left ≡ 0 = omega (arith, c .loop-test .left) in
-    (above-all (subst (λ m. Above (number (now s)) (bitCount (now s)) m (l .digits)) none (l .inv .0)), l .inv .1)
+    (above-all (subst (λ m. Above (number (orderOf (a .order)) (now (a .s))) (bitCount (now (a .s))) m (l .digits)) none (l .inv .0)), l .inv .1)
 
 pub write-spec : {M : Type 1} → statement M
 write-spec = tie.close (tie.spec Inv-loop μ-loop clear-requires loop-holds advance-requires loop-less loop-again same-length same-length-2 returns)

@@ -7,7 +7,9 @@ use Rattle.sarvundole.proofs.exported.sarvundole_read_at.Statement.{sta
 use Rattle.sarvundole.proofs.exported.sarvundole_read_at.Tie as tie
 
 returns : tie.Need-returns
-returns c = rw (toZ-ofZ {w = w8} (sfits-of (c .struct-told .given .1 .0 .1))) (read (c .before .before .read-at .ensures) (c .before .plain .ensures))
+returns c =
+    let r = c .before .before in
+    rw (toZ-ofZ {w = w8} (sfits-of (c .struct-told .given .1 .0 .1))) (read (rw (r .before .order-of .ensures) at (r .read-at .ensures)) (c .before .plain .ensures))
 
 pub sarvundole-read-at-spec : {M : Type 1} → statement M
-sarvundole-read-at-spec = tie.close (tie.spec (λ c κs. search needs) (λ c κs. search needs) returns)
+sarvundole-read-at-spec = tie.close (tie.spec (λ c κs. search needs) (λ c κs. search needs) (λ c κs. search needs) returns)
