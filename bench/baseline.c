@@ -462,3 +462,95 @@ sarvundole_searched baseline_search(uint32_t number, uint8_t width) {
     else r.weight = (uint8_t)least(1u << (width - 1), 9, number);
     return r;
 }
+
+/* ---- frames */
+enum { OPENING = 0xA2, NO_HEX = 16 };
+
+static size_t put_byte(unsigned b, uint8_t *line, size_t at) {
+    static const char capitals[] = "0123456789ABCDEF";
+    line[at] = (uint8_t)capitals[b >> 4 & 15];
+    line[at + 1] = (uint8_t)capitals[b & 15];
+    return at + 2;
+}
+
+static size_t put_two(unsigned n, uint8_t *line, size_t at) { return put_byte(n & 255, line, put_byte(n >> 8, line, at)); }
+
+sarvundole_framed baseline_write(uint8_t version, const int8_t *digits, size_t places, uint8_t *line, size_t room) {
+    sarvundole_framed r = {0, 0};
+    if (places > SARVUNDOLE_MOST_PLACES) {
+        r.refusal = 7;
+        return r;
+    }
+    unsigned weight = 0, top = 0;
+    for (size_t i = 0; i < places; i++)
+        if (digits[i]) weight++, top = (unsigned)i + 1;
+    size_t length = version == 1 ? 10 + 2 * places : 14 + 6 * weight;
+    if (room < length) {
+        r.refusal = 24;
+        return r;
+    }
+    size_t at = put_two(top, line, put_two(weight, line, put_byte(version == 1 ? 0 : OPENING, line, 0)));
+    if (version != 1) at = put_two((unsigned)places, line, at);
+    for (size_t i = 0; i < places; i++) {
+        if (version != 1 && !digits[i]) continue;
+        if (version != 1) at = put_two((unsigned)i, line, at);
+        at = put_byte((uint8_t)digits[i], line, at);
+    }
+    r.length = (uint16_t)length;
+    return r;
+}
+
+static unsigned nibble(uint8_t c) {
+    if (c >= '0' && c <= '9') return c - '0';
+    if (c >= 'A' && c <= 'F') return c - 'A' + 10;
+    if (c >= 'a' && c <= 'f') return c - 'a' + 10;
+    return NO_HEX;
+}
+
+static unsigned byte_in(const uint8_t *line, size_t k) { return nibble(line[2 * k]) << 4 | nibble(line[2 * k + 1]); }
+
+static unsigned two_in(const uint8_t *line, size_t k) { return byte_in(line, k) << 8 | byte_in(line, k + 1); }
+
+sarvundole_parsed baseline_read(const uint8_t *line, size_t characters, int8_t *digits, size_t places) {
+    sarvundole_parsed r = {16, 0, 0, 0, 0};
+    const size_t count = characters / 2;
+    if (characters % 2 || !count) return r;
+    for (size_t i = 0; i < characters; i++)
+        if (nibble(line[i]) == NO_HEX) return r;
+    const unsigned first = byte_in(line, 0);
+    if (count == 1) {
+        if (first >= 1 && first <= 16 && first != 6) r.refusal = 0, r.stated = (uint8_t)first;
+        return r;
+    }
+    const int sparse = first == OPENING;
+    if (!sparse && first) return r;
+    if (count < (sparse ? 7 : 5) || (sparse && (count - 7) % 3)) return r;
+    const size_t has = sparse ? two_in(line, 5) : count - 5;
+    if (has > SARVUNDOLE_MOST_PLACES) {
+        r.refusal = 7;
+        return r;
+    }
+    unsigned weight = 0, top = 0;
+    r.refusal = 21;
+    if (sparse) {
+        for (size_t k = 7; k < count; k += 3) {
+            const unsigned place = two_in(line, k);
+            if (place < top || place >= has || !byte_in(line, k + 2)) return r;
+            weight++, top = place + 1;
+        }
+    } else {
+        for (size_t i = 0; i < has; i++)
+            if (byte_in(line, 5 + i)) weight++, top = (unsigned)i + 1;
+    }
+    if (two_in(line, 1) != weight || two_in(line, 3) != top) return r;
+    r.refusal = 4;
+    if (places < has) return r;
+    if (sparse) {
+        memset(digits, 0, has);
+        for (size_t k = 7; k < count; k += 3) digits[two_in(line, k)] = (int8_t)byte_in(line, k + 2);
+    } else {
+        for (size_t i = 0; i < has; i++) digits[i] = (int8_t)byte_in(line, 5 + i);
+    }
+    r.refusal = 0, r.weight = (uint16_t)weight, r.top = (uint16_t)top, r.places = (uint16_t)has;
+    return r;
+}

@@ -12,18 +12,19 @@
 #include <string.h>
 #include <time.h>
 
-enum { INPUTS = 512, COUNTED = 128, TURNS = 101, AGREED = 20000, ROOM_PLACES = 640, ROOM_WORDS = 1100, ROOM_MARKS = 10, ROOM_MULTIPLES = 70 };
+enum { INPUTS = 512, COUNTED = 128, TURNS = 101, AGREED = 20000, ROOM_PLACES = 640, ROOM_WORDS = 1100, ROOM_MARKS = 10, ROOM_MULTIPLES = 70, ROOM_LINE = 3300 };
 
 /* One call's input and the memory that it is lent. */
 typedef struct {
     uint8_t form, width, order;
     uint8_t scalar[80];
-    size_t bytes, places, words, room, marks_room, multiples_room;
+    size_t bytes, places, words, room, marks_room, multiples_room, line_room, characters;
     uint32_t modulus, base;
     uint16_t calls;
     sarvundole_reader reader;
     int8_t digits[ROOM_PLACES];
     uint16_t tape[ROOM_WORDS];
+    uint8_t line[ROOM_LINE];
 } input;
 
 typedef struct {
@@ -31,6 +32,7 @@ typedef struct {
     uint64_t marks[ROOM_MARKS];
     uint16_t words[ROOM_WORDS];
     uint32_t multiples[ROOM_MULTIPLES];
+    uint8_t line[ROOM_LINE];
     uint32_t fields[8];
 } output;
 
@@ -98,6 +100,25 @@ static void search(const input *in, output *out, int library) {
     out->fields[0] = r.refusal, out->fields[1] = r.weight;
 }
 
+static void write_as(const input *in, output *out, int library, uint8_t version) {
+    sarvundole_framed f = (library ? sarvundole_write : baseline_write)(version, in->digits, in->places, out->line, in->line_room);
+    out->fields[0] = f.refusal, out->fields[1] = f.length;
+}
+
+static void write_1(const input *in, output *out, int library) { write_as(in, out, library, 1); }
+
+static void write_2(const input *in, output *out, int library) { write_as(in, out, library, 2); }
+
+static void read_line(const input *in, output *out, int library) {
+    sarvundole_parsed p = (library ? sarvundole_read : baseline_read)(in->line, in->characters, out->digits, in->places);
+    out->fields[0] = p.refusal, out->fields[1] = p.stated, out->fields[2] = p.weight, out->fields[3] = p.top, out->fields[4] = p.places;
+}
+
+/* The same call on lines of either version. */
+static void read_1(const input *in, output *out, int library) { read_line(in, out, library); }
+
+static void read_2(const input *in, output *out, int library) { read_line(in, out, library); }
+
 /* ---- random input */
 static uint64_t state = 1;
 
@@ -118,7 +139,11 @@ static void accepted(input *in, uint8_t form, uint8_t width, uint8_t order, size
     in->modulus = any32() | 1, in->base = any32(), in->calls = (uint16_t)(8 * bytes);
     baseline_recode(form, width, order, in->scalar, bytes, in->digits, in->places, marks, SARVUNDOLE_MARK_WORDS);
     in->words = baseline_tape(width, in->digits, in->places, in->tape, ROOM_WORDS).words;
+    in->line_room = ROOM_LINE;
 }
+
+/* The line of the input's string. */
+static void framed(input *in, uint8_t version) { in->characters = baseline_write(version, in->digits, in->places, in->line, ROOM_LINE).length; }
 
 /* The same with a fault here and there, so that each refusal comes up. */
 static void any(input *in) {
@@ -141,6 +166,20 @@ static void any(input *in) {
     case 9: in->words = chance(ROOM_WORDS); break;
     case 10: in->multiples_room = chance(ROOM_MULTIPLES); break;
     case 11: in->tape[chance((uint32_t)in->words + 1)] = (uint16_t)chance(65536); break;
+    case 12: in->line_room = chance(ROOM_LINE); break;
+    default: break;
+    }
+    framed(in, (uint8_t)(1 + chance(2)));
+    switch (chance(8)) { /* the line, as a pulled card has it */
+    case 0: in->characters = chance((uint32_t)in->characters + 1); break;
+    case 1: in->line[chance((uint32_t)in->characters + 1)] = (uint8_t)chance(256); break;
+    case 2: in->line[chance((uint32_t)in->characters + 1)] = (uint8_t)"0123456789ABCDEFabcdef"[chance(22)]; break;
+    case 3:
+        for (size_t i = 0; i < in->characters; i++)
+            if (in->line[i] >= 'A' && chance(2)) in->line[i] |= 0x20;
+        break;
+    case 4: in->characters = 2, in->line[0] = (uint8_t)"01"[chance(2)]; break;
+    case 5: in->characters += 6; break;
     default: break;
     }
 }
@@ -197,6 +236,7 @@ static void prepare(input *ins, int count, job *call, uint8_t form, uint8_t widt
     for (int i = 0; i < count; i++) {
         accepted(&ins[i], form, width, order, bytes);
         if (call == search) ins[i].base = (uint32_t)(i % 128);
+        framed(&ins[i], call == read_1 ? 1 : 2);
     }
 }
 
@@ -251,6 +291,10 @@ int main(int words, char **given) {
         {"run", run, 2, 0, {2, 4, 5, 6, 8}},
         {"read_at", read_at, 3, 0, {2, 4, 5, 6, 8}},
         {"reader_next", reader_next, 3, 0, {2, 4, 5, 6, 8}},
+        {"write, version 1", write_1, 2, 0, {2, 4, 5, 6, 8}},
+        {"write, version 2", write_2, 2, 0, {2, 4, 5, 6, 8}},
+        {"read, version 1", read_1, 2, 0, {2, 4, 5, 6, 8}},
+        {"read, version 2", read_2, 2, 0, {2, 4, 5, 6, 8}},
         {"search", search, 2, 0, {2, 3}},
         {"recode MOF, lowest first", recode, 1, 1, {2}},
         {"recode wNAF, lowest first", recode, 2, 1, {4, 8}},

@@ -1,5 +1,5 @@
 /* Sarvundole: recodes a public check number to signed digits, checks digits made elsewhere, makes a step tape of a string and runs
- * a tape over residues. C99 and C++.
+ * a tape over residues; writes a string as a line of hexadecimal and reads such a line. C99 and C++.
  *
  * Scalars come as bytes, 0 to 66 of them, in either order: each call on a scalar is told which byte comes first, 0 for the highest, anything
  * else for the lowest. L bytes have n = 8L bits. A width w is 2 to 8. The digits of width w are 0 and
@@ -7,7 +7,7 @@
  * a signed byte. A recoded string has exactly n + 1 places, at most 529. A tape has at most 1,057 words.
  *
  * Every call takes every input. It answers with `refusal` 0, or with the number of the first rule that the input breaks, tried in
- * rising order. A refusal has its number, the place where the rule names one and otherwise 0, and 0 in every other field; lent
+ * the order that stands at the call, which is the rising one but for read. A refusal has its number, the place where the rule names one and otherwise 0, and 0 in every other field; lent
  * memory then stays as lent. Places of a buffer beyond those named are never touched.
  *
  * What is lent is a pointer and a count of elements. No value of any argument is outside what a call takes; what C cannot let a call look
@@ -48,13 +48,13 @@ enum sarvundole_form {
     SARVUNDOLE_CLOSEST_SMALLER = 5 /* the same, on a tie the one of smaller absolute value */
 };
 
-/* The refusals. 6 was struck, since n + 1 places always suffice, and is not used again; 16 is the line program's. */
+/* The refusals. 6 was struck, since n + 1 places always suffice, and is not used again. */
 enum sarvundole_refusal {
     SARVUNDOLE_ACCEPTED = 0,
     SARVUNDOLE_BAD_FORM = 1,         /* form is not 1..5 */
     SARVUNDOLE_BAD_WIDTH = 2,        /* width outside 2..8, or not 2 with form 1; in the search, width not 2 or 3 */
     SARVUNDOLE_LONG_SCALAR = 3,      /* scalar over 66 bytes; in the search, number over 127 */
-    SARVUNDOLE_FEW_PLACES = 4,       /* digit buffer under n + 1 places */
+    SARVUNDOLE_FEW_PLACES = 4,       /* digit buffer under n + 1 places; in read, under the place count */
     SARVUNDOLE_FEW_MARKS = 5,        /* marks buffer under 9 words */
     SARVUNDOLE_LONG_STRING = 7,      /* digit string over 529 places */
     SARVUNDOLE_BAD_DIGIT = 8,        /* a digit not of the width; place is the lowest such */
@@ -64,7 +64,10 @@ enum sarvundole_refusal {
     SARVUNDOLE_ZERO_MODULUS = 12,    /* modulus 0 */
     SARVUNDOLE_LONG_TAPE = 13,       /* tape over 1,057 words */
     SARVUNDOLE_FEW_MULTIPLES = 14,   /* multiples buffer under 2^(w-2) entries */
-    SARVUNDOLE_BAD_WORD = 15         /* a bad word; place is the first such */
+    SARVUNDOLE_BAD_WORD = 15,        /* a bad word; place is the first such */
+    SARVUNDOLE_MALFORMED = 16,       /* line not all hexadecimal, not opening with 00 or A2, or lacking a field or part of one */
+    SARVUNDOLE_UNFIT_FRAME = 21,     /* places not rising, a zero digit, a place not below the count, or weight or top that does not fit */
+    SARVUNDOLE_SHORT_LINE = 24       /* line buffer too short */
 };
 
 /* A refusal's number in words, for a log; never null. */
@@ -85,6 +88,9 @@ static inline const char *sarvundole_refusal_words(unsigned refusal) {
     case SARVUNDOLE_LONG_TAPE: return "the tape is over 1,057 words";
     case SARVUNDOLE_FEW_MULTIPLES: return "the multiples buffer is too short";
     case SARVUNDOLE_BAD_WORD: return "a word of the tape is bad";
+    case SARVUNDOLE_MALFORMED: return "the line is malformed";
+    case SARVUNDOLE_UNFIT_FRAME: return "the parts of the frame do not fit together";
+    case SARVUNDOLE_SHORT_LINE: return "the line buffer is too short";
     default: return "no refusal of this library";
     }
 }
@@ -98,6 +104,8 @@ static inline const char *sarvundole_refusal_words(unsigned refusal) {
 #define SARVUNDOLE_MARK_WORDS 9
 #define SARVUNDOLE_MOST_WORDS 1057
 #define SARVUNDOLE_MOST_MULTIPLES 64
+#define SARVUNDOLE_MOST_PLAIN_LINE 1068  /* characters of version 1 */
+#define SARVUNDOLE_MOST_LINE 3188        /* characters of either version */
 
 /* What recode and the checks answer: the weight is the number of nonzero digits, the top 1 + the highest nonzero place, 0 if none. */
 typedef struct sarvundole_tally {
@@ -166,6 +174,22 @@ typedef struct sarvundole_searched {
     uint8_t weight;
 } sarvundole_searched;
 
+/* What write answers: the line's length in characters. */
+typedef struct sarvundole_framed {
+    uint8_t refusal;
+    uint16_t length;
+} sarvundole_framed;
+
+/* What read answers: the weight, the top and the place count of a string, and `stated` 0; or for a refused line the number that it
+ * gives in `stated`, and 0 in the other fields. */
+typedef struct sarvundole_parsed {
+    uint8_t refusal;
+    uint8_t stated;
+    uint16_t weight;
+    uint16_t top;
+    uint16_t places;
+} sarvundole_parsed;
+
 /* Recodes a scalar. Writes its n + 1 digits, and marks nonzero places in nine 64-bit words: bit j mod 64 of word j / 64 is set exactly
  * when place j is nonzero. Lent: the scalar; for writing, at least n + 1 places and 9 words. Refusals: 1, 2, 3, 4, 5. */
 sarvundole_tally sarvundole_recode(uint8_t form, uint8_t width, uint8_t order, const uint8_t *scalar, size_t bytes, int8_t *digits,
@@ -207,6 +231,18 @@ sarvundole_reading sarvundole_read_at(uint8_t width, uint8_t order, const uint8_
 
 /* Answers the least weight of any string of nine places that is worth a number up to 127, at width 2 or 3. Refusals: 2, 3. */
 sarvundole_searched sarvundole_search(uint32_t number, uint8_t width);
+
+/* Writes a string as a line of hexadecimal pairs in capitals, without a line feed and without a null character. Version 1 is 00, weight,
+ * top (2 bytes each), then the digits, place 0 first, a byte each; version 2 is A2, weight, top, the place count (2 bytes each), then for
+ * each nonzero digit, lowest place first, its place (2 bytes) and the digit. `version` 1 asks for version 1, anything else for version 2.
+ * A digit may be any signed byte. No character beyond the length is written. Lent: the string; for writing, room for the line.
+ * Refusals: 7, 24; 24 does not tell how long the line is. */
+sarvundole_framed sarvundole_write(uint8_t version, const int8_t *digits, size_t places, uint8_t *line, size_t room);
+
+/* Reads a line of either version, in either case, without its line feed. A line of one byte, 01 to 10 but not 06 (hexadecimal), is that of a
+ * refusal: it is good, gives that number in `stated` and writes no digit. No digit beyond the place count is written. Lent: the line;
+ * for writing, at least as many places as the line has. Refusals, in this order: 16, 7, 21, 4. */
+sarvundole_parsed sarvundole_read(const uint8_t *line, size_t characters, int8_t *digits, size_t places);
 
 #ifdef __cplusplus
 }

@@ -29,7 +29,7 @@ typedef struct {
     int reading;
 } memory;
 
-static memory scalars, strings, tapes, digits, marks, words, multiples;
+static memory scalars, strings, tapes, lines, digits, marks, words, multiples, written;
 
 static void protect(const memory *m, int how) {
     if (mprotect(m->start, page, how)) abort();
@@ -191,13 +191,14 @@ static void made_up_all(void) {
                 made_up(places[i % count], places[i / count % count], places[i / count / count], (uint8_t)width, at_end);
 }
 
-/* Each number that a call gives has words of its own; 6 and what is over 15 have those of no refusal. */
+/* Each number that a call gives has words of its own, and every other number has those of no refusal. */
 static void worded(void) {
     const char *const none = sarvundole_refusal_words(6);
     for (unsigned a = 0; a < 300; a++) {
         const char *words = sarvundole_refusal_words(a);
-        if ((strcmp(words, none) == 0) != (a == 6 || a > SARVUNDOLE_BAD_WORD)) refuse("a refusal has no words, or a number that is none has");
-        for (unsigned b = 0; b < a && a <= SARVUNDOLE_BAD_WORD; b++)
+        const int given = (a != 6 && a <= SARVUNDOLE_MALFORMED) || a == SARVUNDOLE_UNFIT_FRAME || a == SARVUNDOLE_SHORT_LINE;
+        if ((strcmp(words, none) == 0) == given) refuse("a refusal has no words, or a number that is none has");
+        for (unsigned b = 0; b < a && given; b++)
             if (strcmp(words, sarvundole_refusal_words(b)) == 0) refuse("two refusals have the same words");
     }
     if (strlen(SARVUNDOLE_VERSION) == 0) refuse("no version");
@@ -207,6 +208,35 @@ static void search(void) {
     uint8_t width = (uint8_t)take(1);
     sarvundole_searched s = sarvundole_search(take(4), width);
     put(s.refusal, 1), put(s.weight, 1);
+}
+
+static void write_line(int at_end) {
+    uint8_t version = (uint8_t)take(1);
+    size_t room = take(2), places = left;
+    uint8_t *l = lend_to_write(&written, room, 1, 0x2E, at_end);
+    sarvundole_framed f = sarvundole_write(version, lend(&strings, places, at_end, frame), places, l, room);
+    put(f.refusal, 1), put(f.length, 2);
+    given_back(&strings);
+    put_lent(&written, 1);
+}
+
+static void read_line(int at_end) {
+    size_t places = take(2), characters = left;
+    int8_t *d = lend_to_write(&digits, places, 1, 0x5A, at_end);
+    sarvundole_parsed p = sarvundole_read(lend(&lines, characters, at_end, frame), characters, d, places);
+    put(p.refusal, 1), put(p.stated, 1), put(p.weight, 2), put(p.top, 2), put(p.places, 2);
+    given_back(&lines);
+    put_lent(&digits, 1);
+}
+
+/* Any byte but 1 asks for version 2. */
+static void versions(void) {
+    const int8_t digits[] = {0, -3, 0};
+    for (unsigned version = 0; version < 256; version++) {
+        uint8_t line[32];
+        sarvundole_framed f = sarvundole_write((uint8_t)version, digits, sizeof digits, line, sizeof line);
+        if (f.refusal || f.length != (version == 1 ? 16 : 20) || line[0] != (version == 1 ? '0' : 'A')) refuse("a version is another");
+    }
 }
 
 static void call(const uint8_t *data, size_t bytes, int at_end) {
@@ -223,6 +253,8 @@ static void call(const uint8_t *data, size_t bytes, int at_end) {
     case 5: run(at_end); break;
     case 6: read_all(at_end); break;
     case 7: search(); break;
+    case 14: write_line(at_end); break;
+    case 15: read_line(at_end); break;
     default: abort();
     }
 }
@@ -231,10 +263,11 @@ int main(void) {
     static char line[MOST_LINE];
     static uint8_t data[MOST_LINE / 2], before[MOST_ANSWER];
     page = (size_t)sysconf(_SC_PAGESIZE);
-    memory *const all[] = {&scalars, &strings, &tapes, &digits, &marks, &words, &multiples};
+    memory *const all[] = {&scalars, &strings, &tapes, &lines, &digits, &marks, &words, &multiples, &written};
     for (size_t i = 0; i < sizeof all / sizeof *all; i++) make(all[i]);
     made_up_all();
     worded();
+    versions();
     while (fgets(line, sizeof line, stdin)) {
         size_t bytes = strcspn(line, "\n") / 2;
         for (size_t i = 0; i < bytes; i++) {

@@ -1,4 +1,4 @@
-"""The lines that the programs recode and trial are run on: document 01's edges, its known strings, the papers' worked
+"""The lines that the programs recode, sparse and trial are run on: document 01's edges, its known strings, the papers' worked
 examples, every small case, refusals two and more at once, malformed lines, and random cases from a fixed seed.
 
 Here are inputs only. What is to be answered comes from second.py; where a paper or document 01 prints an answer, it is
@@ -61,6 +61,14 @@ def search(width, n):
 def lowest_first(line):
     """The same call on the same bytes, told that they come lowest first."""
     return hexadecimal([second.LOWEST + int(line[:2], 16)]) + line[2:]
+
+
+def write(version, lent, digits):
+    return hexadecimal(bytes([14, version]) + lent.to_bytes(2, "big") + second.big_endian(digits, 1))
+
+
+def read(lent, line):
+    return hexadecimal(bytes([15]) + lent.to_bytes(2, "big") + line)
 
 
 # ---- strings that a document prints, highest place first
@@ -363,6 +371,22 @@ def run_faults():
         yield run(width, room, 0 if 12 in faults else 10, 9, words)
 
 
+def frame_faults():
+    """Every set of faults of a written string, and of a line that is read."""
+    for version, faults in itertools.product((1, 2), subsets([7, 24])):
+        digits = [1, 0, -3] + [0] * (MOST_PLACES - 2 if 7 in faults else 0)
+        length = len(second.frame_of(version, digits))
+        yield write(version, length - 1 if 24 in faults else length, digits)
+    for version, faults in itertools.product((1, 2), subsets([16, 7, 21, 4])):
+        digits = [1, 0, -3] + [0] * (MOST_PLACES - 2 if 7 in faults else 0)
+        line = second.frame_of(version, digits)
+        if 21 in faults:
+            line = line[:5] + b"3" + line[6:]
+        if 16 in faults:
+            line = line[:-1] + b"g"
+        yield read(len(digits) - 1 if 4 in faults else len(digits), line)
+
+
 def small_faults():
     for width, scalar in itertools.product((0, 1, 2, 8, 9, 255), (b"", b"\x9d", bytes(66), bytes(67))):
         yield reader(width, 3, scalar)
@@ -551,6 +575,56 @@ def cross_check():
             assert (0, weighs) == second.search(n, width)
 
 
+def write_edges():
+    yield write(1, 28, [1, 0, -1, 0, 1, 0, 0, 0, 0])
+    yield write(2, 32, [1, 0, -1, 0, 1, 0, 0, 0, 0])
+    strings = [[], [0], [1], [-1], [0, 0, -128], [127, -128, 1, -1], [0] * 9, [1] * MOST_PLACES, [0] * MOST_PLACES, [1] * 530, [0] * 600]
+    for version, digits in itertools.product((1, 2), strings):
+        length = len(second.frame_of(version, digits))
+        for lent in (0, length - 1, length, length + 1):
+            yield write(version, min(lent, 3300), digits)
+    for version in (1, 2):
+        yield write(version, 3300, [127] * MOST_PLACES)
+        for place in (0, 1, 255, 256, 257, 511, 512, 528):
+            yield write(version, 1068, [0] * place + [-3] + [0] * (528 - place))
+        for digit in range(-128, 128):
+            yield write(version, 20, [digit])
+    for version in (0, 3, 162, 255):
+        yield write(version, 20, [1])
+
+
+def read_edges():
+    one = second.written
+    for b in range(256):  # lines of one byte
+        yield read(2, b"%02X" % b)
+        yield read(0, b"%02x" % b)
+        yield read(2, b"%02X" % b + b"0000000000000000")
+    for line in (b"", b"0", b"00", b"A", b"A2", b"a2", b"0a", b"0G", b"06", b"6", b"010", b"0101"):
+        yield read(3, line)
+    strings = [[], [0], [1], [0, -1, 0], [127, -128], [1] * MOST_PLACES, [0] * MOST_PLACES]
+    for digits, version in itertools.product(strings, (1, 2)):
+        line = second.frame_of(version, digits)
+        for lent in (0, len(digits) - 1, len(digits), len(digits) + 3):
+            yield read(max(lent, 0), line)
+        if len(line) < 100:
+            yield read(9, line.lower())
+            yield from (read(9, line[:k]) for k in range(len(line)))
+            yield from (read(9, line + more) for more in (b"0", b"00", b"0000", b"000000", b"000101", b"0001FF", b"\n", b"\r"))
+            yield from (read(9, spoil) for spoil in spoiled(line))
+    # places at and past the count, in each order, twice; a zero digit; weights and tops that do not fit; in version 1 too
+    for places in itertools.product((0, 1, 2, 3, 4, 256), repeat=2):
+        for first, count, weighs in itertools.product((1, 0, 255), (0, 3, 4), (1, 2)):
+            entries = b"".join(second.big_endian([p], 2) + bytes([d]) for p, d in zip(places, (first, 2)))
+            yield read(4, one(bytes([162]) + second.big_endian([weighs, max(places) + 1, count], 2) + entries))
+    for weighs, tops in itertools.product((0, 1, 2, 3, 256), (0, 1, 2, 3, 4, 256)):
+        yield read(4, one(bytes([162]) + second.big_endian([weighs, tops, 3], 2) + bytes([0, 0, 1, 0, 1, 255])))
+        yield read(4, one(bytes([0]) + second.big_endian([weighs, tops], 2) + bytes([1, 255, 0])))
+    for count in (529, 530, 600, 65535):
+        yield read(600, one(bytes([162]) + second.big_endian([0, 0, count], 2)))
+    for places in (529, 530, 600):
+        yield read(600, one(bytes([0]) + second.big_endian([0, 0], 2) + bytes(places)))
+
+
 def trial_malformed():
     good = [
         recode_fitting(WNAF, 3, b"\x2a"),
@@ -560,6 +634,8 @@ def trial_malformed():
         run(3, 3, 10, 9, [0x1001, 0, 0x3000]),
         reader(3, 4, b"\x2a"),
         search(3, 42),
+        write(2, 40, [0, -3, 0, 0, 3]),
+        read(6, second.frame_of(2, [0, -3, 0, 0, 3])),
     ]
     for line in good:
         yield line
@@ -568,7 +644,7 @@ def trial_malformed():
         yield from (line[: 2 * k] for k in range(len(line) // 2))
         yield line + b"00"
         yield line + b"1000"
-    for call in (0, 8, 9, 16, 32, 33, 63, 64, 65, 97, 127, 128, 136, 160, 161, 192, 193, 255):
+    for call in (0, 8, 9, 13, 16, 18, 32, 33, 46, 63, 64, 65, 97, 127, 128, 136, 142, 143, 160, 161, 192, 193, 255):
         yield b"%02X" % call + good[0][2:]
         yield b"%02X" % call
     yield from at_the_limits()
@@ -589,6 +665,10 @@ def at_the_limits():
         yield run(2, 1, 7, 3, [0x1000] * (1100 + more))
         yield reader(2, 700 + more, b"\x01")
         yield reader(2, 1, bytes(80 + more))
+        yield write(2, 3300 + more, [1])
+        yield write(2, 50, [1] * (600 + more))
+        yield read(600 + more, b"01")
+        yield read(1, b"0" * (3300 + more))
     yield recode(WNAF, 3, 65535, 9, b"\x2a")
     yield recode(WNAF, 3, 9, 255, b"\x2a")
     yield hexadecimal(bytes([2, 2, 255, 1]))
@@ -693,9 +773,52 @@ def any_lowest_first(rng, line):
     return lowest_first(line) if call in (1, 2, 3, 6) or rng.random() < 0.1 else line
 
 
+def frame_string(rng):
+    """A string to write: thin or thick, of few places or of many."""
+    places = rng.choice([rng.randrange(6), rng.randrange(40), rng.randrange(40), rng.randrange(200)])
+    often = rng.choice([0.05, 0.3, 1])
+    return [rng.randint(-128, 127) if rng.random() < often else 0 for _ in range(places)]
+
+
+def any_write(rng):
+    version, digits = rng.choice([1, 2]), frame_string(rng)
+    return write(version, max(len(second.frame_of(version, digits)) + rng.choice([0, 0, 1, 5, -1, -9]), 0), digits)
+
+
+def damaged(rng, line):
+    """A line as a pulled card has it: cut, overwritten, joined to another, in the other case, or with a part moved."""
+    kind = rng.randrange(9)
+    if kind == 0:
+        return line[: rng.randrange(len(line) + 1)]
+    if kind == 1:
+        return line[rng.randrange(len(line) + 1) :]
+    if kind == 2:
+        return line + second.frame_of(rng.choice([1, 2]), frame_string(rng))
+    if kind == 3:
+        return any_case(rng, line)
+    if kind == 4 and len(line) >= 26 and line[:2] == b"A2":  # two entries in each other's place
+        a, b = sorted(rng.sample(range(14, len(line), 6), 2))
+        return line[:a] + line[b : b + 6] + line[a + 6 : b] + line[a : a + 6] + line[b + 6 :]
+    if kind == 5:
+        at = rng.randrange(len(line) + 1)
+        return line[:at] + rng.choice([b"0", b"00", b"000000", b"A2", b"\r", b"g"]) + line[at:]
+    for _ in range(rng.choice([1, 1, 2, 5])):
+        at = rng.randrange(len(line))
+        line = line[:at] + bytes([rng.choice(b"0123456789ABCDEFabcdef" if kind < 8 else bytes(range(256)))]) + line[at + 1 :]
+    return line
+
+
+def any_read(rng):
+    digits = frame_string(rng)
+    line = second.frame_of(rng.choice([1, 2, 2]), digits) if rng.random() < 0.97 else b"%02X" % rng.randrange(24)
+    if rng.random() < 0.6:
+        line = damaged(rng, line)
+    return read(max(len(digits) + rng.choice([0, 0, 0, 3, -1]), 0), line)
+
+
 def some_trial_line(rng):
     """A line for the trial program, mostly good."""
-    line = rng.choice([any_recode, any_check, any_check, any_tape, any_run, any_reader, any_search])(rng)
+    line = rng.choice([any_recode, any_check, any_check, any_tape, any_run, any_reader, any_search, any_write, any_read, any_read])(rng)
     if rng.randrange(3) == 0:
         line = any_lowest_first(rng, line)
     kind = rng.randrange(40)
@@ -724,10 +847,13 @@ def trial_input():
         *run_every_word(),
         *reader_edges(),
         *cross_check(),
+        *write_edges(),
+        *read_edges(),
         *recode_faults(),
         *check_faults(),
         *tape_faults(),
         *run_faults(),
+        *frame_faults(),
         *small_faults(),
         *trial_malformed(),
     ]

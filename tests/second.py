@@ -1,11 +1,11 @@
 #!/usr/bin/env python3
-"""The independent second program: every call of document 01, worked out from its definitions alone.
+"""The independent second program: every call of document 01 and of the requests after it, worked out from its definitions alone.
 
 Nothing here is taken from the library. Numbers are Python's integers. MOF comes from bits, wNAF from signed
 residues, wMOF from the document's windows, the closest form from trying candidates, worth from summing, the search
 from trying every digit. The functions are short and slow; that they and the library agree is the point.
 
-    python3 tests/second.py write    writes stdin and stdout of the programs recode and trial
+    python3 tests/second.py write    writes stdin and stdout of the programs recode, sparse and trial
     python3 tests/second.py check    makes them again and says where what is stored differs (exit 1)
     python3 tests/second.py widths   weighs every scalar of one and of two bytes at every width, in every form but MOF; minutes
 
@@ -29,18 +29,22 @@ capitals: every field, then every lent buffer whole. Numbers of more than one by
     06 reader         width 1, calls 2, scalar                              refusal 1, then for each call 01 and the
                                                                             digit, or 0000 for done
     07 search         width 1, number 4                                     refusal 1, weight 1
+    0E write          version 1, characters lent 2, digits                  refusal 1, length 2, the line's buffer
+    0F read           places lent 2, the line's characters                  refusal 1, stated number 1, weight 2, top 2,
+                                                                            places 2, digits
 
 A digit is one byte in two's complement, a mark word eight bytes, a tape word two, a multiple four. Before the call
-every lent digit is 5A, mark word A5A5A5A5A5A5A5A5, tape word EEEE, multiple DEADBEEF. What has no stated length runs
-to the end of the line. A line ends at a line feed; a last line without one counts if not empty.
+every lent digit is 5A, mark word A5A5A5A5A5A5A5A5, tape word EEEE, multiple DEADBEEF, character of a line 2E. What has
+no stated length runs to the end of the line. A line ends at a line feed; a last line without one counts if not empty.
 
 With 80 added to the call, 81, 82, 83 and 86, the scalar's bytes come lowest first; else they come highest first.
 
 FF answers a line that is no such frame: empty, of odd length, with another character, of another call, without a
-part of a fixed field or of the stated scalar, with half a tape word at its end, or with anything after a search. FF
+part of a fixed field or of the stated scalar, with half a tape word at its end, with anything after a search, or with
+a version that is not 1 or 2. FF
 also answers a line that asks for more than the program has: over 600 digits or places, 12 mark words, 1,100 tape
-words (given or lent), 80 multiples, 80 scalar bytes, 700 reader calls. So the longest frame is a run's with 1,100
-words: 2,212 bytes, 4,424 characters, and FF answers every longer line.
+words (given or lent), 80 multiples, 80 scalar bytes, 700 reader calls, 3,300 characters of a line (given or lent). So
+the longest frame is that of a line to read: 3,303 bytes, 6,606 characters, and FF answers every longer line.
 """
 
 import functools
@@ -56,6 +60,8 @@ MARK_WORDS, MARK_BITS = 9, 64
 SEARCH_PLACES, SEARCH_MOST = 9, 127
 MOST_CHARACTERS = 144
 FORMS = MOF, WNAF, WMOF, CLOSEST, SMALLER = 1, 2, 3, 4, 5
+OPENING = 0xA2  # the first byte of a frame of version 2
+STATED = set(range(1, 17)) - {6}  # the numbers that a refused line gives
 
 
 # ---- scalars and digits
@@ -414,25 +420,85 @@ def big_endian(values, size):
     return b"".join((v % 256**size).to_bytes(size, "big") for v in values)
 
 
-# ---- the recode program
-def recode_answer(line):
-    """One line of the recode program, its line feed left out."""
+# ---- frames of both versions
+def frame_of(version, digits):
+    """The line of a string: all its digits, or its nonzero digits with their places."""
+    fields = big_endian([weight(digits), top(digits)], 2)
+    if version == 1:
+        return written(bytes([0]) + fields + big_endian(digits, 1))
+    entries = b"".join(big_endian([j], 2) + big_endian([d], 1) for j, d in enumerate(digits) if d != 0)
+    return written(bytes([OPENING]) + fields + big_endian([len(digits)], 2) + entries)
+
+
+def write(version, digits, line):
+    """refusal, length; the line's buffer"""
+    if len(digits) > MOST_PLACES:
+        return (7, 0), line
+    made = list(frame_of(version, digits))
+    if len(line) < len(made):
+        return (24, 0), line
+    return (0, len(made)), made + line[len(made) :]
+
+
+def parts_of(data):
+    """The place count, the digits at their places and whether the places are in order; None where a part is lacking."""
+    if data is None or data[0] not in (0, OPENING):
+        return None
+    if data[0] == 0:
+        return None if len(data) < 5 else (len(data) - 5, dict(enumerate(signed(data[5:]))), True)
+    if len(data) < 7 or len(data) % 3 != 1:
+        return None
+    count = number(data[5:7])
+    pairs = [(number(data[i : i + 2]), signed(data[i + 2 : i + 3])[0]) for i in range(7, len(data), 3)]
+    places = [place for place, _ in pairs]
+    in_order = places == sorted(set(places)) and all(place < count and digit != 0 for place, digit in pairs)
+    return count, dict(pairs), in_order
+
+
+def read(line, digits):
+    """refusal, stated number, weight, top, places; digits"""
+    data = bytes_of(line)
+    if data is not None and len(data) == 1 and data[0] in STATED:
+        return (0, data[0], 0, 0, 0), digits
+    parts = parts_of(data)
+    refusal = 0
+    if parts is None:
+        refusal = 16
+    else:
+        count, at, in_order = parts
+        made = [at.get(j, 0) for j in range(count)]
+        if count > MOST_PLACES:
+            refusal = 7
+        elif not in_order or [number(data[1:3]), number(data[3:5])] != [weight(made), top(made)]:
+            refusal = 21
+        elif len(digits) < count:
+            refusal = 4
+    if refusal != 0:
+        return (refusal, 0, 0, 0, 0), digits
+    return (0, 0, weight(made), top(made), count), made + digits[count:]
+
+
+# ---- the programs recode and sparse
+def recode_answer(line, version=1):
+    """One line of the recode program, its line feed left out; of the program sparse in version 2."""
     frame = bytes_of(line)
     if frame is None or len(line) > MOST_CHARACTERS or len(frame) < 3 or len(frame) != 3 + frame[2]:
         return written(bytes([16]))
     form, width, scalar = frame[0], frame[1], frame[3:]
     room = 8 * len(scalar) + 1
-    (refusal, _, weighs, tops), digits, _ = recode(form, width, scalar, [0] * room, [0] * MARK_WORDS)
-    if refusal != 0:
-        return written(bytes([refusal]))
-    return written(bytes([0]) + big_endian([weighs, tops], 2) + big_endian(digits, 1))
+    (refusal, *_), digits, _ = recode(form, width, scalar, [0] * room, [0] * MARK_WORDS)
+    return written(bytes([refusal])) if refusal != 0 else frame_of(version, digits)
+
+
+def sparse_answer(line):
+    return recode_answer(line, version=2)
 
 
 # ---- the trial program
-LENT_DIGIT, LENT_MARK, LENT_WORD, LENT_MULTIPLE = 0x5A, 0xA5A5A5A5A5A5A5A5, 0xEEEE, 0xDEADBEEF
+LENT_DIGIT, LENT_MARK, LENT_WORD, LENT_MULTIPLE, LENT_CHARACTER = 0x5A, 0xA5A5A5A5A5A5A5A5, 0xEEEE, 0xDEADBEEF, 0x2E
 TRIAL_PLACES, TRIAL_MARKS, TRIAL_WORDS = 600, 12, 1100
 TRIAL_MULTIPLES, TRIAL_BYTES, TRIAL_CALLS = 80, 80, 700
-TRIAL_CHARACTERS = 2 * (12 + 2 * TRIAL_WORDS)
+TRIAL_LINE = 3300
 
 
 class NoFrame(Exception):
@@ -514,7 +580,23 @@ def trial_search(frame):
     return bytes(search(n, width))
 
 
-TRIALS = [trial_recode, trial_check, trial_nonadjacent, trial_tape, trial_run, trial_reader, trial_search]
+def trial_write(frame):
+    version = frame.number(1)
+    if version not in (1, 2):
+        raise NoFrame
+    line = [LENT_CHARACTER] * frame.number(2, TRIAL_LINE)
+    (refusal, length), line = write(version, signed(frame.remaining(TRIAL_PLACES)), line)
+    return bytes([refusal]) + big_endian([length], 2) + bytes(line)
+
+
+def trial_read(frame):
+    digits = [LENT_DIGIT] * frame.number(2, TRIAL_PLACES)
+    (refusal, stated, *counts), digits = read(frame.remaining(TRIAL_LINE), digits)
+    return bytes([refusal, stated]) + big_endian(counts, 2) + big_endian(digits, 1)
+
+
+TRIALS = dict(enumerate([trial_recode, trial_check, trial_nonadjacent, trial_tape, trial_run, trial_reader, trial_search], 1))
+TRIALS |= {0x0E: trial_write, 0x0F: trial_read}
 ON_A_SCALAR = [trial_recode, trial_check, trial_nonadjacent, trial_reader]
 LOWEST = 0x80  # added to the call: the scalar's bytes come lowest first
 
@@ -522,9 +604,9 @@ LOWEST = 0x80  # added to the call: the scalar's bytes come lowest first
 def trial_answer(line):
     """One line of the trial program, its line feed left out."""
     data = bytes_of(line)
-    if data is None or not 1 <= data[0] % LOWEST <= len(TRIALS):
+    if data is None or data[0] % LOWEST not in TRIALS:
         return b"FF"
-    call = TRIALS[data[0] % LOWEST - 1]
+    call = TRIALS[data[0] % LOWEST]
     if data[0] >= LOWEST and call not in ON_A_SCALAR:
         return b"FF"
     try:
@@ -533,7 +615,7 @@ def trial_answer(line):
         return b"FF"
 
 
-ANSWERS = {"recode": recode_answer, "trial": trial_answer}
+ANSWERS = {"recode": recode_answer, "sparse": sparse_answer, "trial": trial_answer}
 
 
 def output_of(program, data):
@@ -610,11 +692,26 @@ def check_widths(size):
             assert weights == sorted(weights, reverse=True), (form, scalar, weights)
 
 
+def check_frames():
+    """What is written is read back, in either case; and a frame of version 2 that is read is the one that is written for its digits."""
+    strings = [[], [0], [-128, 0, 127], [1] * MOST_PLACES, [0] * MOST_PLACES, form_digits(WNAF, 3, b"\x01\x5d")]
+    for digits in strings:
+        for version in (1, 2):
+            line = frame_of(version, digits)
+            for given in (line, line.lower()):
+                assert read(given, [1] * 600) == ((0, 0, weight(digits), top(digits), len(digits)), digits + [1] * (600 - len(digits)))
+    for n in range(65536):
+        line = written(bytes([OPENING, 0, n & 1, 0, n >> 1 & 3, 0, 2, 0, n >> 3 & 3]) + bytes([n >> 5 & 0xFF]))
+        (refusal, _, _, _, count), digits = read(line, [5] * 4)
+        assert refusal in (0, 21) and (refusal != 0 or frame_of(2, digits[:count]) == line)
+
+
 def own_checks():
     check_forms()
     check_nearest()
     check_tapes()
     check_orders()
+    check_frames()
     check_widths(1)
 
 
@@ -624,7 +721,8 @@ def stored_files():
     import cases
 
     files = {}
-    for program, data in (("recode", cases.recode_input()), ("trial", cases.trial_input())):
+    asked = cases.recode_input()
+    for program, data in (("recode", asked), ("sparse", asked), ("trial", cases.trial_input())):
         files[f"crates/{program}/stdin"] = data
         files[f"crates/{program}/stdout"] = output_of(program, data)
     return files

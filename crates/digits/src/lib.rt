@@ -52,7 +52,7 @@ pub fn counted(digit: i8) -> u16
 }
 
 // The count is kept as small as it may be: the fewer bytes it has, the more digits are counted at a time.
-fn weight(digits: &[i8]) -> u16
+pub fn weight(digits: &[i8]) -> u16
     requires { ⌜ length (now digits) ≤ mostPlaces ⌝ }
     ensures { λ r. ⌜ r ≡ weight (now (digits .entry)) ⌝ }
 {
@@ -83,7 +83,7 @@ fn lowest_bad(width: Width, digits: &[i8]) -> usize
 }
 
 // The highest digits are looked at first: there are few above the top.
-fn top(digits: &[i8]) -> usize
+pub fn top(digits: &[i8]) -> usize
     ensures { λ r. ⌜ r ≡ top (now (digits .entry)) ⌝ }
 {
     let mut i = digits.len();

@@ -1,155 +1,137 @@
--- The answer to a line: its rules where the line is a frame and enough is lent, and the lines written for a string and for a refusal. Assumes nothing.
-use mathlib.Core.Path.{_≡_, refl, sym, ap, subst, _∙_}
-use mathlib.Core.Logic.{_≢_, inl, inr}
-use mathlib.Core.Bool.{not}
-use mathlib.Core.List.{List, [], _∷_, _++_}
-use Prim.Native.Nat.{ℕ, _+_, _-_, _/_, _<_, _≤_}
+-- What a reader answers to a line: in each refusal, to a refused line, and to a frame that fits. Assumes nothing.
+use mathlib.Core.Path.{_≡_, refl, sym, ap, _∙_}
+use mathlib.Core.Logic.{_≢_}
+use mathlib.Core.Bool.{Bool, true, false, not, _&&_}
+use mathlib.Core.List.{List, _++_}
+use Prim.Native.Nat.{ℕ, _+_, _*_, _<_, _≤_}
+use native.Mathlib.Nat.{zero-add}
 use native.Mathlib.Omega.{arith}
-use lib.Dec.{T, T-not}
+use lib.Dec.{eqb}
 use lib.IntN.{ℤ}
-use lib.ListN.{length, getD, take, drop, length-append, length-drop, List·getD-append}
-use lib.Seq.{sets, take-at, drop-append-le, drop-at}
-use Rattle.meaning.specs.Scalars.{Order, highestFirst, number, bitCount, mostBytes}
-use Rattle.meaning.specs.Digits.{mostPlaces, Tally}
-use Rattle.meaning.specs.Forms.{Form}
-use Rattle.meaning.specs.Refusals.{First}
-use Rattle.meaning.specs.Recoding.{markWords, recodeRules, Recode}
-use Rattle.meaning.specs.Lines.{lineFeed}
-use Rattle.meaning.specs.Hexadecimal.{written, bytesOf}
-use Rattle.meaning.specs.Frames.{malformed, formOf, widthOf, scalarOf, lineRules, acceptedBytes, Answer}
-use Rattle.forms.proofs.Refusals.{clear}
-use Rattle.frames.specs.Writing.{Wrote}
-use Rattle.frames.specs.Answered.{Lent, Kept, Worked, Filled, Answered}
-use Rattle.hexadecimal.proofs.Characters.{bytes-count}
-use Rattle.laws.proofs.Choices.{not-below}
-use Rattle.laws.proofs.Runs.{sets-front}
+use lib.ListN.{length, getD, drop}
+use borrow.Author.Tests.{le-ltb, eq-eqb, ne-eqb}
+use Rattle.meaning.specs.Digits.{mostPlaces, weight, top}
+use Rattle.meaning.specs.Refusals.{Rule}
+use Rattle.meaning.specs.Hexadecimal.{bytesOf}
+use Rattle.meaning.specs.Frames.{rising, numberAt as numberIn, entriesIn, weightIn, topIn, placesIn, digitsIn, stated, lacking, unreadable, inOrder, unfit, readRules, Parsed, Read}
+use Rattle.forms.proofs.Refusals.{Until, numberAt, first-at, granted-none, kept-lent}
+use Rattle.digits.proofs.Scans.{flag}
+use Rattle.layout.proofs.Bytes.{sparse-digits, sparse-order, Fit, unfit-not}
+use Rattle.layout.proofs.Frames.{no-flag, good-none, stated-bare}
+use Rattle.layout.specs.Wholes.{PlainFrame, SparseFrame}
+use Rattle.frames.specs.Orders.{above}
+use Rattle.frames.specs.Told.{refusedBy}
+use Rattle.frames.proofs.Ordering.{from-count, entries-weight, entries-top}
 
--- what stands at the front of lent memory after a line is written, and past it
-wrote-front : {line out₀ out : List ℕ} {r : ℕ} → Wrote line out₀ r out → take r out ≡ line
-wrote-front {line} {out₀} {out} {r} w = ap (take r) (w .out-is) ∙ take-at line (drop r out₀) r (sym (w .count-is))
+-- ---- a frame whose parts are there can be read
+module _ (line : List ℕ) where
+  pub plain-readable : PlainFrame line → unreadable line ≡ false
+  unfolding unreadable lacking
+  plain-readable f =
+      rw (f .unstated, f .pairs, f .plain, eq-eqb (getD (bytesOf line) 0 0) 0 (f .opens), le-ltb (length (bytesOf line)) 5 (f .long))
 
-wrote-rest : {line out₀ out : List ℕ} {r : ℕ} → Wrote line out₀ r out → drop r out ≡ drop r out₀
-wrote-rest {line} {out₀} {out} {r} w = ap (drop r) (w .out-is) ∙ drop-at line (drop r out₀) r (sym (w .count-is))
+  pub sparse-readable : SparseFrame line → unreadable line ≡ false
+  unfolding unreadable lacking
+  sparse-readable f = rw (f .unstated, f .pairs, f .sparse, le-ltb (length (bytesOf line)) 7 (f .long), eq-eqb _ 0 (f .whole))
 
--- and it stands within that memory
-wrote-within : {line out₀ out : List ℕ} {r : ℕ} → Wrote line out₀ r out → r ≤ length out
-wrote-within {line} {out₀} {out} {r} w = omega (arith, w .count-is, simp length-append at (ap length (w .out-is)))
+-- ---- what does not fit
+module _ (bs : List ℕ) where
+  and-no : (p : Bool) → not (p && false) ≡ true
+  and-no true = refl
+  and-no false = refl
 
--- ---- the answer
-module _ (line out₀ out : List ℕ) (r : ℕ) where
-  -- a refusal
-  answer-refused : (n : ℕ) → n ≢ 0 → First (lineRules line) n 0 → Wrote (written (n ∷ []) ++ (lineFeed ∷ [])) out₀ r out → Answer line (take r out)
-  answer-refused n h f w = record { refusal = n; first = f; accepted = λ e. absurd (h e); refused = λ _. wrote-front w }
+  pub unfit-order : inOrder bs ≡ false → unfit bs ≡ true
+  unfolding unfit
+  unfit-order e = rw e
 
-  -- a string
-  answer-accepted : (ds : List ℤ) → First (lineRules line) 0 0 → Form (formOf line) (widthOf line) (number highestFirst (scalarOf line)) (bitCount (scalarOf line)) ds
-      → Wrote (written (acceptedBytes ds) ++ (lineFeed ∷ [])) out₀ r out → Answer line (take r out)
-  answer-accepted ds f form w = record { refusal = 0; first = f; accepted = λ _. (ds, form, wrote-front w); refused = λ n. absurd (n refl) }
+  pub unfit-weight : weightIn bs ≢ weight (digitsIn bs) → unfit bs ≡ true
+  unfolding unfit
+  unfit-weight n = rw (ne-eqb _ _ n) (and-no (inOrder bs))
 
--- a recoding that is lent enough for every scalar refuses what a line's rules refuse
-line-first : (line : List ℕ) → T (not (malformed line)) → (places words r p : ℕ) → mostPlaces ≤ places → markWords ≤ words
-    → First (recodeRules (formOf line) (widthOf line) (scalarOf line) places words) r p → First (lineRules line) r 0
-line-first line frame places words r p hp hw f = inr (T-not (malformed line) frame, go f)
-  where
-    go : First (recodeRules (formOf line) (widthOf line) (scalarOf line) places words) r p
-        → First (recodeRules (formOf line) (widthOf line) (scalarOf line) (bitCount (scalarOf line) + 1) markWords) r 0
-    go (inl (e, c)) = inl (e, (c .0, refl))
-    go (inr (n1, inl (e, c))) = inr (n1, inl (e, (c .0, refl)))
-    go (inr (n1, inr (n2, inl (e, c)))) = inr (n1, inr (n2, inl (e, (c .0, refl))))
-    go (inr (n1, inr (n2, inr (n3, inl (e, c))))) = absurd (n3 (omega (arith, c .0)))
-    go (inr (n1, inr (n2, inr (n3, inr (n4, inl (e, c)))))) = absurd (omega (arith, c .0))
-    go (inr (n1, inr (n2, inr (n3, inr (n4, inr (n5, d)))))) = inr (n1, inr (n2, inr (n3, inr ((λ h. omega arith), inr ((λ h. omega arith), (d .0, refl))))))
+  pub unfit-top : topIn bs ≢ top (digitsIn bs) → unfit bs ≡ true
+  unfolding unfit
+  unfit-top n = rw (ne-eqb _ _ n) (last (inOrder bs) (eqb (weightIn bs) (weight (digitsIn bs))))
+    where
+      last : (p q : Bool) → not (p && (q && false)) ≡ true
+      last true true = refl
+      last true false = refl
+      last false q = refl
 
--- ---- the work memory
--- the frame's bytes, read to its front
-bytes-front : (line bytes₀ : List ℕ) → length line / 2 ≤ length bytes₀ → sets bytes₀ 0 (bytesOf line) ≡ bytesOf line ++ drop (length (bytesOf line)) bytes₀
-bytes-front line bytes₀ h = sets-front bytes₀ (bytesOf line) (omega (arith, bytes-count line))
+-- ---- a version 2 frame whose entries rise has the weight and the top of its entries
+module _ (line : List ℕ) (f : SparseFrame line) (rises : rising 0 (numberIn (bytesOf line) 5) (entriesIn (bytesOf line)) ≡ true) where
+  abbrev bytes : List ℕ
+  bytes = bytesOf line
 
--- the part of it that is the scalar
-scalar-part : (line bytes₀ : List ℕ) (n : ℕ) → length (bytesOf line) ≡ n → 3 ≤ n → take (n - 3) (drop 3 (bytesOf line ++ drop n bytes₀)) ≡ scalarOf line
-scalar-part line bytes₀ n e h =
-    ap (take (n - 3)) (drop-append-le 3 (bytesOf line) (drop n bytes₀) (omega arith))
-    ∙ take-at (drop 3 (bytesOf line)) (drop n bytes₀) (n - 3) (omega (arith, length-drop 3 (bytesOf line)))
+  pub sparse-weight : (n : ℕ) → 7 + 3 * n ≡ length bytes → weight (digitsIn bytes) ≡ n
+  sparse-weight n e =
+      ap weight (sparse-digits bytes (f .sparse)) ∙ entries-weight (numberIn bytes 5) (entriesIn bytes) rises ∙ from-count bytes n e 0 n (zero-add n)
 
-module _ (line bytes₀ : List ℕ) (least : 6 ≤ length line) (most : length line / 2 ≤ length bytes₀) {bytes : List ℕ} (read : bytes ≡ sets bytes₀ 0 (bytesOf line)) where
-  front-is : bytes ≡ bytesOf line ++ drop (length (bytesOf line)) bytes₀
-  front-is = read ∙ bytes-front line bytes₀ most
+  pub sparse-top : top (digitsIn bytes) ≡ above 0 (entriesIn bytes)
+  sparse-top = ap top (sparse-digits bytes (f .sparse)) ∙ entries-top (numberIn bytes 5) (entriesIn bytes) rises
 
-  -- a byte of the frame
-  byte-at : (k : ℕ) → k < length line / 2 → getD bytes k 0 ≡ getD (bytesOf line) k 0
-  byte-at k h =
-      ap (λ l. getD l k 0) front-is ∙ List·getD-append (bytesOf line) (drop (length (bytesOf line)) bytes₀) 0 k (omega (arith, bytes-count line))
-
-  scalar-is : take (length line / 2 - 3) (drop 3 bytes) ≡ scalarOf line
-  scalar-is =
-      ap (λ n. take (n - 3) (drop 3 bytes)) (sym (bytes-count line))
-      ∙ ap (λ l. take (length (bytesOf line) - 3) (drop 3 l)) front-is
-      ∙ scalar-part line bytes₀ (length (bytesOf line)) refl (omega (arith, bytes-count line))
-
-  -- what recode leaves, given what was read
-  pub worked : {digits₀ digits : List ℤ} {marks₀ marks : List ℕ} {a : Tally}
-      → Recode (getD bytes 0 0) (getD bytes 1 0) highestFirst (take (length line / 2 - 3) (drop 3 bytes)) digits₀ marks₀ a digits marks
-      → Worked line bytes₀ digits₀ marks₀ bytes digits marks a
-  worked R = record { bytes-are = front-is; recoded = rw (byte-at 0 (omega arith), byte-at 1 (omega arith), scalar-is) at R }
-
--- ---- where no rule applies
-module _ {form w : ℕ} {o : Order} {s : List ℕ} {digits₀ digits : List ℤ} {marks₀ marks : List ℕ} {a : Tally} (R : Recode form w o s digits₀ marks₀ a digits marks) (none : a .refusal ≡ 0) where
-  -- the scalar is not too long, and there is room for its digits
-  pub room : (length s ≤ mostBytes) × (bitCount s + 1 ≤ length digits₀)
-  room = let (_, (_, (l, (d, _)))) = clear (recodeRules form w s (length digits₀) (length marks₀)) tt (a .refusal) (a .place) (R .first) none in (not-below l, not-below d)
-
-  -- the first places of the digits are the string that has the form
-  pub string-is : length digits ≡ length digits₀ → take (bitCount s + 1) digits ≡ R .accepted none .string
-  string-is same =
-      let A = R .accepted none in
-      let n : length (A .string) ≡ bitCount s + 1 = omega (arith, room .1, length-drop (bitCount s + 1) digits₀, simp length-append at (ap length (A .digits-are))) in
-      ap (take (bitCount s + 1)) (A .digits-are) ∙ take-at (A .string) (drop (bitCount s + 1) digits₀) (bitCount s + 1) n
-
--- ---- the call
-module _ (line : List ℕ) (bytes₀ bytes : List ℕ) (digits₀ digits : List ℤ) (marks₀ marks out₀ out : List ℕ) (r : ℕ) where
-  pub filled-malformed : T (malformed line) → Wrote (written (16 ∷ []) ++ (lineFeed ∷ [])) out₀ r out → Kept bytes₀ digits₀ marks₀ bytes digits marks
-      → Filled line bytes₀ digits₀ marks₀ out₀ r bytes digits marks out
-  filled-malformed t w k =
+  pub sparse-fit : (n : ℕ) → 7 + 3 * n ≡ length bytes → weightIn bytes ≡ n → topIn bytes ≡ above 0 (entriesIn bytes) → Fit bytes
+  sparse-fit n e k t =
       record {
-        within = wrote-within w;
-        answer = answer-refused line out₀ out r 16 (λ e. omega arith) (inl (refl, (t, refl))) w;
-        rest = wrote-rest w;
-        strange = λ _. k;
-        frame = λ f. absurd (T-not (malformed line) f t);
+        ordered = sparse-order bytes (f .sparse) ∙ rises;
+        weight-fits = k ∙ sym (sparse-weight n e);
+        top-fits = t ∙ sym sparse-top;
       }
 
-  module _ (frame : T (not (malformed line))) (lent : Lent bytes₀ digits₀ marks₀ out₀) {a : Tally} (W : Worked line bytes₀ digits₀ marks₀ bytes digits marks a) where
-    rules : First (lineRules line) (a .refusal) 0
-    rules = line-first line frame (length digits₀) (length marks₀) (a .refusal) (a .place) (lent .digits-fit) (lent .marks-fit) (W .recoded .first)
+-- ---- the answers
+module _ (line : List ℕ) (digits₀ : List ℤ) where
+  abbrev rules : List Rule
+  rules = readRules line (length digits₀)
 
-    filled : {text : List ℕ} → Wrote text out₀ r out → Answer line (take r out) → Filled line bytes₀ digits₀ marks₀ out₀ r bytes digits marks out
-    filled w x =
-        record {
-          within = wrote-within w;
-          answer = x;
-          rest = wrote-rest w;
-          strange = λ t. absurd (T-not (malformed line) frame t);
-          frame = λ _. (a, W);
-        }
+  -- the rule at index k applies first
+  refuses : (k : ℕ) → Until rules k 0 → numberAt rules k ≢ 0 → {a : Parsed} → a ≡ refusedBy (numberAt rules k) → Read line digits₀ a digits₀
+  refuses k u n e =
+      let r = numberAt rules k in
+      rw e
+      (record {
+        first = first-at rules k 0 u;
+        stated-is = sym (granted-none r _ n);
+        weight-is = sym (granted-none r _ n);
+        top-is = sym (granted-none r _ n);
+        places-are = sym (granted-none r _ n);
+        digits-are = sym (kept-lent r _ digits₀ n);
+      })
 
-    pub filled-refused : a .refusal ≢ 0 → Wrote (written (a .refusal ∷ []) ++ (lineFeed ∷ [])) out₀ r out → Filled line bytes₀ digits₀ marks₀ out₀ r bytes digits marks out
-    filled-refused h w = filled w (answer-refused line out₀ out r (a .refusal) h rules w)
+  pub read-strange : {a : Parsed} → unreadable line ≡ true → a ≡ refusedBy 16 → Read line digits₀ a digits₀
+  read-strange u e = refuses 0 (flag u, refl) (λ z. omega arith) e
 
-    pub filled-accepted : (none : a .refusal ≡ 0) → Wrote (written (acceptedBytes (W .recoded .accepted none .string)) ++ (lineFeed ∷ [])) out₀ r out
-        → Filled line bytes₀ digits₀ marks₀ out₀ r bytes digits marks out
-    filled-accepted none w =
-        let A = W .recoded .accepted none in
-        filled w (answer-accepted line out₀ out r (A .string) (subst (λ x. First (lineRules line) x 0) none rules) (A .formed) w)
+  pub read-stated : {b : ℕ} → stated line ≡ b → b ≢ 0 → Read line digits₀ (record { refusal = 0; stated = b; weight = 0; top = 0; places = 0 }) digits₀
+  read-stated e z =
+      let B = stated-bare line (λ q. z (sym e ∙ q)) in
+      record {
+        first = good-none line (length digits₀) (B .good (length digits₀));
+        stated-is = sym e;
+        weight-is = sym (B .no-weight);
+        top-is = sym (B .no-top);
+        places-are = sym (B .no-places);
+        digits-are = sym (ap (λ l. l ++ drop (placesIn (bytesOf line)) digits₀) (B .no-digits) ∙ ap (λ m. drop m digits₀) (B .no-places));
+      }
 
--- enough is lent
-pub answered : {line bytes₀ bytes marks₀ marks out₀ out : List ℕ} {digits₀ digits : List ℤ} {r : ℕ} → Lent bytes₀ digits₀ marks₀ out₀
-    → Filled line bytes₀ digits₀ marks₀ out₀ r bytes digits marks out → Answered line bytes₀ digits₀ marks₀ out₀ r bytes digits marks out
-answered l f = record { enough = λ _. f; short = λ n. absurd (n l) }
+  module _ (readable : unreadable line ≡ false) where
+    pub read-long : {a : Parsed} → mostPlaces < placesIn (bytesOf line) → a ≡ refusedBy 7 → Read line digits₀ a digits₀
+    read-long h e = refuses 1 (no-flag readable, (h, refl)) (λ z. omega arith) e
 
--- too little is lent
-pub untouched : {line bytes₀ marks₀ out₀ : List ℕ} {digits₀ : List ℤ} → (Lent bytes₀ digits₀ marks₀ out₀ → ⊥) → Answered line bytes₀ digits₀ marks₀ out₀ 0 bytes₀ digits₀ marks₀ out₀
-untouched n =
-    record {
-      enough = λ e. absurd (n e);
-      short = λ _. record { none = refl; out-is = refl; kept = record { bytes-are = refl; digits-are = refl; marks-are = refl } };
-    }
+    module _ (few : placesIn (bytesOf line) ≤ mostPlaces) where
+      pub read-unfit : {a : Parsed} → unfit (bytesOf line) ≡ true → a ≡ refusedBy 21 → Read line digits₀ a digits₀
+      read-unfit u e = refuses 2 (no-flag readable, ((λ h. omega arith), (flag u, refl))) (λ z. omega arith) e
+
+      module _ (fits : Fit (bytesOf line)) where
+        pub read-short : {a : Parsed} → length digits₀ < placesIn (bytesOf line) → a ≡ refusedBy 4 → Read line digits₀ a digits₀
+        read-short h e = refuses 3 (no-flag readable, ((λ l. omega arith), (no-flag (unfit-not (bytesOf line) fits), (h, refl)))) (λ z. omega arith) e
+
+        pub read-whole : {k t n : ℕ} → stated line ≡ 0 → placesIn (bytesOf line) ≤ length digits₀ → {digits : List ℤ} → k ≡ weightIn (bytesOf line) → t ≡ topIn (bytesOf line)
+            → n ≡ placesIn (bytesOf line) → digits ≡ digitsIn (bytesOf line) ++ drop (placesIn (bytesOf line)) digits₀
+            → Read line digits₀ (record { refusal = 0; stated = 0; weight = k; top = t; places = n }) digits
+        read-whole z h a b c d =
+            record {
+              first = good-none line (length digits₀) (record { readable = readable; short = few; fit = fits; room = h });
+              stated-is = sym z;
+              weight-is = a;
+              top-is = b;
+              places-are = c;
+              digits-are = d;
+            }

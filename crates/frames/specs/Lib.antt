@@ -1,3 +1,6 @@
--- What the contracts of this crate cite.
-pub mod Writing
-pub mod Answered
+-- What the contracts of this crate cite beside `meaning` and `layout`.
+pub mod Counts
+pub mod Entered
+pub mod Kinds
+pub mod Orders
+pub mod Told

@@ -1,105 +1,37 @@
-// Frames: a line of hexadecimal read as a frame, and the answer to any line written.
-use recoder::MARK_WORDS;
-use scalar::Order;
-use width::Width;
-ghost use mathlib.Core.Path.{_≡_};
-ghost use mathlib.Core.Bool.{not};
-ghost use lib.Dec.{T};
-ghost use Rattle.meaning.specs.Frames.{malformed};
-ghost use Rattle.frames.specs.Answered.{Lent, Filled, Answered};
+// Frames of both versions: a digit string written to a lent line, and a line read to lent digits. Nothing of recoding is known here.
+mod counts;
+mod entries;
+mod fields;
+mod kinds;
+mod reading;
+mod writing;
 
-mod answers;
+pub use reading::read;
+pub use writing::MOST_PLAIN;
+pub use writing::MOST_SPARSE;
+pub use writing::fill;
+pub use writing::line_length;
+pub use writing::write;
 
-// The most characters of a line, its line feed not counted, and the bytes that they are.
-pub const MOST_CHARACTERS: usize = 144;
-
-pub const MOST_BYTES: usize = MOST_CHARACTERS / 2;
-
-// The longest answer, its line feed counted.
-pub const MOST_ANSWER: usize = answers::MOST;
-
-// The refusal of a malformed line.
-const MALFORMED: u8 = 16;
-
-// Form, width and scalar length stand before the scalar's bytes.
-const HEAD: usize = 3;
-
-// The character at which the scalar length stands.
-const STATED_AT: usize = 2 * (HEAD - 1);
-
-// Whether a line is no frame. Nothing under three bytes is one, so an empty line is not either.
-fn malformed(line: &[u8]) -> bool
-    ensures { λ r. ⌜ r ≡ malformed (now (line .entry)) ⌝ }
-{
-    if line.len() < 2 * HEAD {
-        return true;
-    }
-    if MOST_CHARACTERS < line.len() {
-        return true;
-    }
-    if line.len() % 2 == 1 {
-        return true;
-    }
-    if hexadecimal::all_hex(line) {
-        let stated = hexadecimal::byte(line[STATED_AT], line[STATED_AT + 1]);
-        return line.len() / 2 != HEAD + stated as usize;
-    }
-    true
+// Version 1 has every digit, version 2 the nonzero ones with their places.
+pub enum Version {
+    Plain,
+    Sparse,
 }
 
-// The answer to a frame: its bytes are read, recoded and written out.
-fn frame(
-    line: &[u8],
-    bytes: &mut [u8],
-    digits: &mut [i8],
-    marks: &mut [u64],
-    out: &mut [u8],
-) -> usize
-    requires { ⌜ T (not (malformed (now line))) ⌝ }
-    requires { ⌜ Lent (now bytes) (now digits) (now marks) (now out) ⌝ }
-    ensures { λ r. ⌜ Filled (now (line .entry)) (now (bytes .entry)) (now (digits .entry)) (now (marks .entry)) (now (out .entry)) r (now (bytes .exit)) (now (digits .exit)) (now (marks .exit)) (now (out .exit)) ⌝ }
-{
-    hexadecimal::read(line, bytes);
-    let count = line.len() / 2;
-    let tally = recoder::recode(
-        bytes[0],
-        bytes[1],
-        Order::HighestFirst,
-        &bytes[HEAD..count],
-        digits,
-        marks,
-    );
-    if tally.refusal != 0 {
-        return answers::refused(tally.refusal, out);
-    }
-    let places = 8 * (count - HEAD) + 1;
-    answers::accepted(tally.weight, tally.top, &digits[..places], out)
+// What writing answers: 0, or the number of a refusal; and on acceptance the line's length in characters.
+#[repr(C)]
+pub struct Framed {
+    pub refusal: u8,
+    pub length: u16,
 }
 
-// The answer to any line, written to the front of `out`, and how long it is. The other memory is worked in. Where too little is lent, nothing is written.
-pub fn answer(
-    line: &[u8],
-    bytes: &mut [u8],
-    digits: &mut [i8],
-    marks: &mut [u64],
-    out: &mut [u8],
-) -> usize
-    ensures { λ r. ⌜ Answered (now (line .entry)) (now (bytes .entry)) (now (digits .entry)) (now (marks .entry)) (now (out .entry)) r (now (bytes .exit)) (now (digits .exit)) (now (marks .exit)) (now (out .exit)) ⌝ }
-{
-    if bytes.len() < MOST_BYTES {
-        return 0;
-    }
-    if digits.len() < Width::MOST_PLACES {
-        return 0;
-    }
-    if marks.len() < MARK_WORDS {
-        return 0;
-    }
-    if out.len() < MOST_ANSWER {
-        return 0;
-    }
-    if malformed(line) {
-        return answers::refused(MALFORMED, out);
-    }
-    frame(line, bytes, digits, marks, out)
+// What reading answers: 0, or the number of a refusal; on acceptance the number that a refused line gives, or 0 and the weight, the top and the places of a string.
+#[repr(C)]
+pub struct Parsed {
+    pub refusal: u8,
+    pub stated: u8,
+    pub weight: u16,
+    pub top: u16,
+    pub places: u16,
 }

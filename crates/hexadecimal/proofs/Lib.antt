@@ -2,3 +2,4 @@
 pub mod Characters
 pub mod Reading
 pub mod Writing
+pub mod Capitals

@@ -7,6 +7,7 @@ use native.Mathlib.Omega.{arith}
 use lib.Dec.{T, leb·suc-zero}
 use lib.IntN.{ℤ, pos, negsuc, natAbs, _-ℤ_}
 use lib.ListN.{length}
+use borrow.Author.Tests.{lt-ltb, le-ltb}
 use lib.Seq.{sets}
 use lib.Signed.{ltZ}
 use mir.Syntax.{w8}
@@ -14,7 +15,7 @@ use mir.Val.{SFits, toZ, ofZ}
 use mir.Facts.{toZ-ofZ}
 use Rattle.laws.proofs.Signed.{plain-is}
 use Rattle.meaning.specs.Hexadecimal.{pair, written}
-use Rattle.meaning.specs.Frames.{byteOf}
+use Rattle.meaning.specs.Frames.{byteOf, digitOf}
 
 -- ---- bytes
 -- a pair, and what follows it
@@ -46,22 +47,23 @@ positive (negsuc n) e = absurd (subst T e tt)
 
 -- ---- the digit of a byte
 -- one below 128 is the digit
-pub digit-plain : (b : ℕ) → b < 128 → byteOf (toZ w8 b) ≡ b
-unfolding byteOf
-digit-plain b h = ap byteOf (plain-is w8 b h)
+pub digit-plain : (b : ℕ) → b < 128 → toZ w8 b ≡ digitOf b
+unfolding digitOf
+digit-plain b h = plain-is w8 b h ∙ rw (lt-ltb b 128 h)
 
 -- else it is as far under -1 as the byte is under 255
 under-is : (n : ℕ) → negsuc 0 -ℤ pos n ≡ negsuc n
 under-is zero = refl
 under-is (suc n) = ap (λ k. negsuc (suc k)) (omega arith)
 
-module _ (n : ℕ) (h : n < 128) where
-  under : negsuc 0 -ℤ toZ w8 n ≡ negsuc n
-  under = rw (plain-is w8 n h) (under-is n)
+under : (n : ℕ) → n < 128 → negsuc 0 -ℤ toZ w8 n ≡ negsuc n
+under n h = rw (plain-is w8 n h) (under-is n)
 
-  pub digit-fits : SFits w8 (negsuc 0 -ℤ toZ w8 n)
-  digit-fits = rw under (record { sfits = h })
+pub digit-fits : (n : ℕ) → n < 128 → SFits w8 (negsuc 0 -ℤ toZ w8 n)
+digit-fits n h = rw (under n h) (record { sfits = h })
 
-  pub digit-under : byteOf (toZ w8 (ofZ w8 (negsuc 0 -ℤ toZ w8 n))) ≡ 255 - n
-  unfolding byteOf
-  digit-under = ap byteOf (toZ-ofZ digit-fits ∙ under)
+pub digit-under : (b : ℕ) → 128 ≤ b → b < 256 → toZ w8 (ofZ w8 (negsuc 0 -ℤ toZ w8 (255 - b))) ≡ digitOf b
+unfolding digitOf
+digit-under b l h =
+    let n : 255 - b < 128 = omega arith in
+    toZ-ofZ (digit-fits (255 - b) n) ∙ under (255 - b) n ∙ rw (le-ltb b 128 l)

@@ -6,7 +6,7 @@ ghost use lib.Dec.{T};
 ghost use lib.ListN.{length};
 ghost use lib.Seq.{sets};
 ghost use Rattle.meaning.specs.Hexadecimal.{nibble, allHex, bytesOf, capital, pair, written};
-ghost use Rattle.meaning.specs.Frames.{twoBytes, byteOf};
+ghost use Rattle.meaning.specs.Frames.{twoBytes, byteOf, digitOf};
 ghost use Rattle.hexadecimal.specs.Pairs.{Pairs};
 
 // What no hexadecimal character stands for.
@@ -113,9 +113,9 @@ pub fn byte_of(d: i8) -> u8
     if d < 0 { 255 - (size - 1) } else { size }
 }
 
-// The digit of a byte: the one among the signed bytes that has it.
+// The digit of a byte. It goes by the digit's size: a byte from 128 on is no digit to cast to.
 pub fn digit_of(b: u8) -> i8
-    ensures { λ r. ⌜ byteOf r ≡ b ⌝ }
+    ensures { λ r. ⌜ r ≡ digitOf b ⌝ }
 {
     if b < 128 {
         return b as i8;

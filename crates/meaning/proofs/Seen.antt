@@ -19,8 +19,9 @@ use Rattle.meaning.specs.Multiples.{makingOf, made, madeFrom, costDoubli
 use Rattle.meaning.specs.Taping.{moves, down, tapeOf}
 use Rattle.meaning.specs.Reading.{digit, done, readAt}
 use Rattle.meaning.specs.Lines.{linesOf}
-use Rattle.meaning.specs.Hexadecimal.{nibble, allHex, bytesOf, written}
-use Rattle.meaning.specs.Frames.{malformed, byteOf, digitBytes, acceptedBytes}
+use Rattle.meaning.specs.Hexadecimal.{nibble, allHex, inPairs, bytesOf, written, raised, inCapitals}
+use Rattle.meaning.specs.Frames.{byteOf, digitBytes, digitOf, entriesFrom, entryBytes, entriesOf, rising, digitAt, version1, version2, lineOf, isSparse, digitsIn, stated, lacking, unreadable, inOrder, unfit}
+use Rattle.meaning.specs.Requests.{malformed}
 
 -- 13 as 1 0 -1 0 1, on the nine places of a byte
 thirteen : List ℤ
@@ -135,7 +136,68 @@ well-formed : malformed (48 ∷ 50 ∷ 48 ∷ 50 ∷ 48 ∷ 49 ∷ 48 ∷ 68 ∷
 unfolding malformed allHex nibble bytesOf
 well-formed = refl
 
-its-answer : written (acceptedBytes thirteen)
+its-answer : lineOf version1 thirteen
     ≡ 48 ∷ 48 ∷ 48 ∷ 48 ∷ 48 ∷ 51 ∷ 48 ∷ 48 ∷ 48 ∷ 53 ∷ 48 ∷ 49 ∷ 48 ∷ 48 ∷ 70 ∷ 70 ∷ 48 ∷ 48 ∷ 48 ∷ 49 ∷ 48 ∷ 48 ∷ 48 ∷ 48 ∷ 48 ∷ 48 ∷ 48 ∷ 48 ∷ []
 unfolding thirteen written digitBytes byteOf weight top nonzero
 its-answer = refl
+
+-- the same string in version 2: A2 0003 0005 0009, then 0000 01, 0002 FF, 0004 01
+its-sparse : lineOf version2 thirteen
+    ≡ 65 ∷ 50 ∷ 48 ∷ 48 ∷ 48 ∷ 51 ∷ 48 ∷ 48 ∷ 48 ∷ 53 ∷ 48 ∷ 48 ∷ 48 ∷ 57 ∷ 48 ∷ 48 ∷ 48 ∷ 48 ∷ 48 ∷ 49 ∷ 48 ∷ 48 ∷ 48 ∷ 50 ∷ 70 ∷ 70 ∷ 48 ∷ 48 ∷ 48 ∷ 52 ∷ 48 ∷ 49 ∷ []
+unfolding thirteen written weight top nonzero entriesFrom entryBytes byteOf
+its-sparse = refl
+
+-- it is read back; with a place twice, places that fall, a place at the count or a zero digit, or with another weight or top a line is not fit
+its-string : digitsIn (0xA2 ∷ 0 ∷ 3 ∷ 0 ∷ 5 ∷ 0 ∷ 9 ∷ 0 ∷ 0 ∷ 1 ∷ 0 ∷ 2 ∷ 255 ∷ 0 ∷ 4 ∷ 1 ∷ []) ≡ thirteen
+unfolding thirteen digitsIn isSparse entriesOf digitAt digitOf listed
+its-string = refl
+
+fits : unfit (0xA2 ∷ 0 ∷ 1 ∷ 0 ∷ 2 ∷ 0 ∷ 3 ∷ 0 ∷ 1 ∷ 255 ∷ []) ≡ false
+unfolding unfit inOrder rising digitsIn isSparse entriesOf digitAt digitOf listed nonzero weight top
+fits = refl
+
+twice : unfit (0xA2 ∷ 0 ∷ 1 ∷ 0 ∷ 2 ∷ 0 ∷ 3 ∷ 0 ∷ 1 ∷ 255 ∷ 0 ∷ 1 ∷ 255 ∷ []) ≡ true
+unfolding unfit inOrder rising digitsIn isSparse entriesOf digitAt digitOf listed nonzero weight top
+twice = refl
+
+falling : unfit (0xA2 ∷ 0 ∷ 2 ∷ 0 ∷ 2 ∷ 0 ∷ 2 ∷ 0 ∷ 1 ∷ 1 ∷ 0 ∷ 0 ∷ 1 ∷ []) ≡ true
+unfolding unfit inOrder rising digitsIn isSparse entriesOf digitAt digitOf listed nonzero weight top
+falling = refl
+
+at-count : unfit (0xA2 ∷ 0 ∷ 0 ∷ 0 ∷ 0 ∷ 0 ∷ 3 ∷ 0 ∷ 3 ∷ 255 ∷ []) ≡ true
+unfolding unfit inOrder rising digitsIn isSparse entriesOf digitAt digitOf listed nonzero weight top
+at-count = refl
+
+zero-digit : unfit (0xA2 ∷ 0 ∷ 0 ∷ 0 ∷ 0 ∷ 0 ∷ 3 ∷ 0 ∷ 1 ∷ 0 ∷ []) ≡ true
+unfolding unfit inOrder rising digitsIn isSparse entriesOf digitAt digitOf listed nonzero weight top
+zero-digit = refl
+
+other-weight : unfit (0xA2 ∷ 0 ∷ 2 ∷ 0 ∷ 2 ∷ 0 ∷ 3 ∷ 0 ∷ 1 ∷ 255 ∷ []) ≡ true
+unfolding unfit inOrder rising digitsIn isSparse entriesOf digitAt digitOf listed nonzero weight top
+other-weight = refl
+
+other-top : unfit (0xA2 ∷ 0 ∷ 1 ∷ 0 ∷ 3 ∷ 0 ∷ 3 ∷ 0 ∷ 1 ∷ 255 ∷ []) ≡ true
+unfolding unfit inOrder rising digitsIn isSparse entriesOf digitAt digitOf listed nonzero weight top
+other-top = refl
+
+-- `10` is a refused line that gives 16; `06` and `00` are malformed, and so is an entry that is cut short
+its-number : stated (49 ∷ 48 ∷ []) ≡ 16
+unfolding stated inPairs allHex bytesOf nibble
+its-number = refl
+
+struck-number : unreadable (48 ∷ 54 ∷ []) ≡ true
+unfolding unreadable stated inPairs allHex bytesOf nibble isSparse lacking
+struck-number = refl
+
+no-number : unreadable (48 ∷ 48 ∷ []) ≡ true
+unfolding unreadable stated inPairs allHex bytesOf nibble isSparse lacking
+no-number = refl
+
+cut-short : lacking (0xA2 ∷ 0 ∷ 1 ∷ 0 ∷ 2 ∷ 0 ∷ 3 ∷ 0 ∷ 1 ∷ []) ≡ true
+unfolding lacking isSparse
+cut-short = refl
+
+-- `0d` in capitals is `0D`
+its-capitals : inCapitals (48 ∷ 100 ∷ []) ≡ 48 ∷ 68 ∷ []
+unfolding inCapitals raised
+its-capitals = refl

@@ -3,7 +3,8 @@
 use mathlib.Core.Bool.{Bool, true, cond, _&&_}
 use mathlib.Core.List.{List, [], _∷_}
 use Prim.Native.Nat.{ℕ, _+_, _-_, _*_, _/_, _%_}
-use lib.Dec.{leb, ltb}
+use lib.Dec.{leb, ltb, eqb}
+use lib.ListN.{length}
 
 -- lo ≤ c ≤ hi
 abbrev pub between : ℕ → ℕ → ℕ → Bool
@@ -20,6 +21,10 @@ nibble c =
 unfoldable pub allHex : List ℕ → Bool
 allHex [] = true
 allHex (c ∷ cs) = ltb (nibble c) 16 && allHex cs
+
+-- a line is hexadecimal pairs
+unfoldable pub inPairs : List ℕ → Bool
+inPairs line = allHex line && eqb (length line % 2) 0
 
 -- the bytes of a line's pairs
 unfoldable pub bytesOf : List ℕ → List ℕ
@@ -38,3 +43,13 @@ pair b cs = capital (b / 16) ∷ capital (b % 16) ∷ cs
 unfoldable pub written : List ℕ → List ℕ
 written [] = []
 written (b ∷ bs) = pair b (written bs)
+
+-- ---- letters' case
+-- a small letter of hexadecimal as a capital, and any other character as it is
+unfoldable pub raised : ℕ → ℕ
+raised c = cond (between 97 102 c) (c - 32) c
+
+-- a line in capitals: two lines are the same but for the case of letters where these are equal
+unfoldable pub inCapitals : List ℕ → List ℕ
+inCapitals [] = []
+inCapitals (c ∷ cs) = raised c ∷ inCapitals cs

@@ -1,4 +1,4 @@
--- Document 01 as definitions, in its order: what a reader has to believe. No proof stands here, and no code is named.
+-- Document 01 as definitions, in its order, with the requests that came after it: what a reader has to believe. No proof stands here, and no code is named.
 pub mod Scalars
 pub mod Digits
 pub mod Mof
@@ -20,3 +20,4 @@ pub mod Searching
 pub mod Lines
 pub mod Hexadecimal
 pub mod Frames
+pub mod Requests

@@ -18,12 +18,14 @@ use Rattle.meaning.specs.Taping.{tapeRules}
 use Rattle.meaning.specs.Running.{runRules, Run, Ran}
 use Rattle.meaning.specs.Reading.{readerRules, Holds}
 use Rattle.meaning.specs.Searching.{searchRules, Searched, Search}
-use Rattle.meaning.specs.Frames.{malformed, formOf, widthOf, scalarOf, lineRules, Answer}
+use Rattle.meaning.specs.Frames.{Version, writeRules, Framed, Write, readRules, Parsed, Read}
+use Rattle.meaning.specs.Requests.{malformed, formOf, widthOf, scalarOf, lineRules, Answer}
 use Rattle.forms.proofs.Refusals.{kept-lent}
 use Rattle.forms.proofs.Forms.{form-exists, form-length, form-worth}
 use Rattle.scalar.proofs.Bytes.{Bytes, number-lt}
 use Rattle.recoder.specs.Judged.{Allowed}
 use Rattle.promises.proofs.Exactly.{Given, Exactly, first-given, exactly}
+use Rattle.promises.proofs.InOrder.{InOrder, in-order}
 use Rattle.promises.proofs.Recode as Recoding
 use Rattle.promises.proofs.Tape as Taping
 use Rattle.promises.proofs.Check as Checking
@@ -52,14 +54,21 @@ reader-exactly w order s r H = exactly (readerRules w s) tt _ _ H
 pub search-exactly : (number w : ℕ) (a : Searched) → Search number w a → Exactly (searchRules number w) (a .refusal) 0
 search-exactly number w a K = exactly (searchRules number w) tt _ _ (K .first)
 
+pub write-exactly : (v : Version) (ds : List ℤ) (out₀ : List ℕ) (a : Framed) (out : List ℕ) → Write v ds out₀ a out → Exactly (writeRules v ds (length out₀)) (a .refusal) 0
+write-exactly v ds out₀ a out K = exactly (writeRules v ds (length out₀)) tt _ _ (K .first)
+
+-- reading tries 16 first, and 4 last
+pub read-exactly : (line : List ℕ) (digits₀ : List ℤ) (a : Parsed) (digits : List ℤ) → Read line digits₀ a digits → InOrder (readRules line (length digits₀)) (a .refusal) 0
+read-exactly line digits₀ a digits K = in-order (readRules line (length digits₀)) tt _ _ (K .first)
+
 -- the line: the program tries 16 first, and then recode's rules
 pub record LineExactly (line : List ℕ) (r : ℕ) : Type 0 where
   pub malformed-first : T (malformed line) → r ≡ 16
   pub malformed-only : r ≡ 16 → T (malformed line)
   pub others : (T (malformed line) → ⊥) → let s = scalarOf line in Exactly (recodeRules (formOf line) (widthOf line) s (bitCount s + 1) markWords) r 0
 
-pub line-exactly : (line out : List ℕ) (A : Answer line out) → LineExactly line (A .refusal)
-line-exactly line out A = go (A .first)
+pub line-exactly : (v : Version) (line out : List ℕ) (A : Answer v line out) → LineExactly line (A .refusal)
+line-exactly v line out A = go (A .first)
   where
     s : List ℕ
     s = scalarOf line
@@ -100,3 +109,9 @@ tape-kept w ds words₀ o K n = K .words-are ∙ kept-lent (o .taped .refusal) _
 
 pub run-kept : (w : ℕ) (ws : List ℕ) (m g : ℕ) (multiples₀ : List ℕ) (a : Ran) (multiples : List ℕ) → Run w ws m g multiples₀ a multiples → a .refusal ≢ 0 → multiples ≡ multiples₀
 run-kept w ws m g multiples₀ a multiples K n = K .multiples-are ∙ kept-lent (a .refusal) _ multiples₀ n
+
+pub write-kept : (v : Version) (ds : List ℤ) (out₀ : List ℕ) (a : Framed) (out : List ℕ) → Write v ds out₀ a out → a .refusal ≢ 0 → out ≡ out₀
+write-kept v ds out₀ a out K n = K .out-is ∙ kept-lent (a .refusal) _ out₀ n
+
+pub read-kept : (line : List ℕ) (digits₀ : List ℤ) (a : Parsed) (digits : List ℤ) → Read line digits₀ a digits → a .refusal ≢ 0 → digits ≡ digits₀
+read-kept line digits₀ a digits K n = K .digits-are ∙ kept-lent (a .refusal) _ digits₀ n

@@ -13,7 +13,7 @@ use lib.ListN.{length, getD, drop, List·getD-eq-default}
 use Rattle.laws.proofs.Choices.{not-below}
 use Rattle.laws.proofs.Division.{floor}
 use Rattle.meaning.specs.Scalars.{Order, number, bitCount}
-use Rattle.meaning.specs.Digits.{leastWidth, mostWidth, largest, entries, inSet, worth, weight, top, Tally}
+use Rattle.meaning.specs.Digits.{leastWidth, mostWidth, largest, entries, inSet, worth, weight, top, mostPlaces, Tally}
 use Rattle.meaning.specs.Forms.{mostForm}
 use Rattle.meaning.specs.Refusals.{Rule, plain, lowest, numberOf, Lowest, Applies, Fails, First, granted, kept, badWidth}
 use Rattle.meaning.specs.Recoding.{markWords, marksOf, recodeRules}
@@ -23,6 +23,8 @@ use Rattle.meaning.specs.Walks.{tapeValue, doublings, additions, IsLoad, Good}
 use Rattle.meaning.specs.Multiples.{costOf}
 use Rattle.meaning.specs.Taping.{tapeOf, tapeRules}
 use Rattle.meaning.specs.Running.{BadWord, multiplesOf, runRules, Run, Ran}
+use Rattle.meaning.specs.Hexadecimal.{bytesOf}
+use Rattle.meaning.specs.Frames.{Version, lineOf, writeRules, Framed, Write, weightIn, topIn, placesIn, digitsIn, stated, unreadable, unfit, readRules, Parsed, Read}
 use Rattle.forms.proofs.Refusals.{clear}
 use Rattle.forms.proofs.Forms.{form-exists}
 use Rattle.scalar.proofs.Bytes.{Bytes, number-lt}
@@ -50,6 +52,22 @@ first-exists (x ∷ xs) (inr n, d) = let (r, p, f) = first-exists xs (d n) in (r
 by : {C : Type 0} → Dec C → Decided (plain 0 C)
 by (yes c) = inl (0, (c, refl))
 by (no n) = inr n
+
+flag? : (b : Bool) → Dec (T b)
+flag? true = yes tt
+flag? false = no (λ t. t)
+
+-- rules that are all plain name no place
+abbrev AllPlain : List Rule → Type 0
+AllPlain [] = Unit {0}
+AllPlain (plain n C ∷ xs) = AllPlain xs
+AllPlain (lowest n C ∷ xs) = ⊥
+
+plain-place : (rules : List Rule) → AllPlain rules → (r p : ℕ) → First rules r p → First rules r 0
+plain-place [] t r p (z, e) = (z, refl)
+plain-place (plain n C ∷ xs) t r p (inl (a, (c, e))) = inl (a, (c, refl))
+plain-place (plain n C ∷ xs) t r p (inr (o, f)) = inr (o, plain-place xs t r p f)
+plain-place (lowest n C ∷ xs) t r p f = absurd t
 
 -- the lowest of the places under n, or none of them
 search-under : (C : ℕ → Type 0) → ((p : ℕ) → Dec (C p)) → (n : ℕ) → ((p : ℕ) × (p < n) × Lowest C p) ⊎ ((p : ℕ) → p < n → C p → ⊥)
@@ -267,4 +285,24 @@ run-kept-by w ws m g multiples₀ =
         cost-additions-are = refl;
         multiples-are = refl;
       },
+    )
+
+-- ---- frames
+pub write-kept-by : (v : Version) (ds : List ℤ) (out₀ : List ℕ) → (o : Framed × List ℕ) × Write v ds out₀ (o .0) (o .1)
+write-kept-by v ds out₀ =
+    let (r, p, f) = first-exists (writeRules v ds (length out₀)) (by (decLt mostPlaces (length ds)), λ _. (by (decLt (length out₀) (length (lineOf v ds))), λ _. tt)) in
+    let line = lineOf v ds in (
+      (record { refusal = r; length = granted r (length line) }, kept r (line ++ drop (length line) out₀) out₀),
+      record { first = plain-place (writeRules v ds (length out₀)) tt r p f; length-is = refl; out-is = refl },
+    )
+
+pub read-kept-by : (line : List ℕ) (digits₀ : List ℤ) → (o : Parsed × List ℤ) × Read line digits₀ (o .0) (o .1)
+read-kept-by line digits₀ =
+    let bs = bytesOf line in
+    let (r, p, f) = first-exists (readRules line (length digits₀)) (by (flag? (unreadable line)), λ _. (by (decLt mostPlaces (placesIn bs)), λ _. (by (flag? (unfit bs)), λ _. (by (decLt (length digits₀) (placesIn bs)), λ _. tt)))) in (
+      (
+        record { refusal = r; stated = granted r (stated line); weight = granted r (weightIn bs); top = granted r (topIn bs); places = granted r (placesIn bs) },
+        kept r (digitsIn bs ++ drop (placesIn bs) digits₀) digits₀,
+      ),
+      record { first = plain-place (readRules line (length digits₀)) tt r p f; stated-is = refl; weight-is = refl; top-is = refl; places-are = refl; digits-are = refl },
     )

@@ -1,5 +1,6 @@
 -- Theorems about the calls' promises alone.
 pub mod Exactly
+pub mod InOrder
 pub mod Recode
 pub mod Known
 pub mod Slips
@@ -8,7 +9,9 @@ pub mod Run
 pub mod Search
 pub mod Reader
 pub mod Check
+pub mod Frames
 pub mod Line
+pub mod Answers
 pub mod RuledOut
 pub mod Demand1
 pub mod Demand2

@@ -1,7 +1,7 @@
--- The promise of the line's answer: two answers to one line are equal, so are two outputs for one input, and so is all that two calls leave in lent memory.
+-- The promise of the line's answer: two answers to one line, in one version, are equal, so are two outputs for one input, and so is all that two calls leave in lent memory.
 -- Assumes nothing.
 use mathlib.Core.Path.{_≡_, refl, sym, ap, subst, _∙_}
-use mathlib.Core.Logic.{inl, inr}
+use mathlib.Core.Logic.{_≢_, inl, inr}
 use mathlib.Core.Bool.{Bool, true, false, not}
 use mathlib.Core.List.{List, [], _∷_, _++_}
 use Prim.Native.Nat.{ℕ, _+_, _≤_}
@@ -17,21 +17,28 @@ use Rattle.meaning.specs.Refusals.{First}
 use Rattle.meaning.specs.Recoding.{markWords}
 use Rattle.meaning.specs.Lines.{lineFeed, Each}
 use Rattle.meaning.specs.Hexadecimal.{written}
-use Rattle.meaning.specs.Frames.{malformed, formOf, widthOf, scalarOf, lineRules, acceptedBytes, Answer, Answers}
+use Rattle.meaning.specs.Frames.{Version, lineOf}
+use Rattle.meaning.specs.Requests.{malformed, formOf, widthOf, scalarOf, lineRules, Answer, Answers}
 use Rattle.forms.proofs.Refusals.{first-only}
 use Rattle.forms.proofs.Forms.{form-same}
-use Rattle.frames.specs.Answered.{mostFrame, mostAnswer, Lent, Kept, Worked, Filled, Answered}
+use Rattle.requests.specs.Answered.{mostFrame, mostAnswer, Lent, Kept, Worked, Filled, Answered}
 use Rattle.promises.proofs.Recode as Recoding
 use Rattle.promises.proofs.Recode.{accepted-width, recode-determined}
 
 -- ---- one line
-module _ (line : List ℕ) where
+-- a refused line is the same in both versions
+pub refused-same : (v v′ : Version) (line a b : List ℕ) (A : Answer v line a) → Answer v′ line b → A .refusal ≢ 0 → a ≡ b
+refused-same v v′ line a b A B n =
+    let same = first-only (lineRules line) (A .first) (B .first) .0 in
+    A .refused n ∙ ap (λ r. written (r ∷ []) ++ (lineFeed ∷ [])) same ∙ sym (B .refused (λ e. n (same ∙ e)))
+
+module _ (v : Version) (line : List ℕ) where
   -- an accepted line has a width of at least 2
   two : {r : ℕ} → First (lineRules line) r 0 → r ≡ 0 → 2 ≤ widthOf line
   two (inl (e, h)) z = absurd (omega arith)
   two (inr (_, f)) z = accepted-width (formOf line) (widthOf line) (scalarOf line) (bitCount (scalarOf line) + 1) markWords 0 f z
 
-  pub answer-determined : (a b : List ℕ) → Answer line a → Answer line b → a ≡ b
+  pub answer-determined : (a b : List ℕ) → Answer v line a → Answer v line b → a ≡ b
   answer-determined a b A B = go (ℕ-discrete (A .refusal) 0)
     where
       same : A .refusal ≡ B .refusal
@@ -42,15 +49,15 @@ module _ (line : List ℕ) where
           let (ds, f, e) = A .accepted z in
           let (es, g, h) = B .accepted (sym same ∙ z) in
           let d = form-same (widthOf line) (number highestFirst (scalarOf line)) (bitCount (scalarOf line)) (two (A .first) z) (formOf line) ds es f g in
-          e ∙ ap (λ x. written (acceptedBytes x) ++ (lineFeed ∷ [])) d ∙ sym h
-      go (no n) = A .refused n ∙ ap (λ r. written (r ∷ []) ++ (lineFeed ∷ [])) same ∙ sym (B .refused (λ e. n (same ∙ e)))
+          e ∙ ap (λ x. lineOf v x ++ (lineFeed ∷ [])) d ∙ sym h
+      go (no n) = refused-same v v line a b A B n
 
 -- ---- a whole input
-pub answers-determined : (ls : List (List ℕ)) (a b : List ℕ) → Answers ls a → Answers ls b → a ≡ b
+pub answers-determined : (v : Version) (ls : List (List ℕ)) (a b : List ℕ) → Answers v ls a → Answers v ls b → a ≡ b
 unfolding Each
-answers-determined [] a b A B = A ∙ sym B
-answers-determined (l ∷ ls) a b (u, v, A, As, e) (x, y, B, Bs, f) =
-    e ∙ ap (λ t. t ++ v) (answer-determined l u x A B) ∙ ap (λ t. x ++ t) (answers-determined ls v y As Bs) ∙ sym f
+answers-determined v [] a b A B = A ∙ sym B
+answers-determined v (l ∷ ls) a b (u, w, A, As, e) (x, y, B, Bs, f) =
+    e ∙ ap (λ t. t ++ w) (answer-determined v l u x A B) ∙ ap (λ t. x ++ t) (answers-determined v ls w y As Bs) ∙ sym f
 
 -- ---- a call
 -- what it leaves: the length that it returns, and all memory that was lent
@@ -70,21 +77,21 @@ same-outcome o o′ n b d m t =
     ∙ ap (λ x. record { count = o′ .count; bytes = o′ .bytes; digits = o′ .digits; marks = x; out = o .out }) m
     ∙ ap (λ x. record { count = o′ .count; bytes = o′ .bytes; digits = o′ .digits; marks = o′ .marks; out = x }) t
 
-module _ (line bytes₀ : List ℕ) (digits₀ : List ℤ) (marks₀ out₀ : List ℕ) where
+module _ (v : Version) (line bytes₀ : List ℕ) (digits₀ : List ℤ) (marks₀ out₀ : List ℕ) where
   -- the outcome satisfies the promise
   abbrev pub Keeps : Outcome → Type 0
-  Keeps o = Answered line bytes₀ digits₀ marks₀ out₀ (o .count) (o .bytes) (o .digits) (o .marks) (o .out)
+  Keeps o = Answered v line bytes₀ digits₀ marks₀ out₀ (o .count) (o .bytes) (o .digits) (o .marks) (o .out)
 
   abbrev Fills : Outcome → Type 0
-  Fills o = Filled line bytes₀ digits₀ marks₀ out₀ (o .count) (o .bytes) (o .digits) (o .marks) (o .out)
+  Fills o = Filled v line bytes₀ digits₀ marks₀ out₀ (o .count) (o .bytes) (o .digits) (o .marks) (o .out)
 
   abbrev Works : Outcome → Type 0
   Works o = (a : Tally) × Worked line bytes₀ digits₀ marks₀ (o .bytes) (o .digits) (o .marks) a
 
-  enough? : Dec (Lent bytes₀ digits₀ marks₀ out₀)
-  enough? = go (decLe mostFrame (length bytes₀)) (decLe mostPlaces (length digits₀)) (decLe markWords (length marks₀)) (decLe mostAnswer (length out₀))
+  enough? : Dec (Lent v bytes₀ digits₀ marks₀ out₀)
+  enough? = go (decLe mostFrame (length bytes₀)) (decLe mostPlaces (length digits₀)) (decLe markWords (length marks₀)) (decLe (mostAnswer v) (length out₀))
     where
-      go : Dec (mostFrame ≤ length bytes₀) → Dec (mostPlaces ≤ length digits₀) → Dec (markWords ≤ length marks₀) → Dec (mostAnswer ≤ length out₀) → Dec (Lent bytes₀ digits₀ marks₀ out₀)
+      go : Dec (mostFrame ≤ length bytes₀) → Dec (mostPlaces ≤ length digits₀) → Dec (markWords ≤ length marks₀) → Dec (mostAnswer v ≤ length out₀) → Dec (Lent v bytes₀ digits₀ marks₀ out₀)
       go (yes a) (yes b) (yes c) (yes d) = yes (record { bytes-fit = a; digits-fit = b; marks-fit = c; answer-fits = d })
       go (no a) b c d = no (λ L. a (L .bytes-fit))
       go (yes a) (no b) c d = no (λ L. b (L .digits-fit))
@@ -108,12 +115,12 @@ module _ (line bytes₀ : List ℕ) (digits₀ : List ℤ) (marks₀ out₀ : Li
   -- the answers are the same, so are their lengths, and so is what stands past them
   same-count : (o o′ : Outcome) → Fills o → Fills o′ → o .count ≡ o′ .count
   same-count o o′ F F′ =
-      sym (length-take-le (o .count) (o .out) (F .within)) ∙ ap length (answer-determined line _ _ (F .answer) (F′ .answer)) ∙ length-take-le (o′ .count) (o′ .out) (F′ .within)
+      sym (length-take-le (o .count) (o .out) (F .within)) ∙ ap length (answer-determined v line _ _ (F .answer) (F′ .answer)) ∙ length-take-le (o′ .count) (o′ .out) (F′ .within)
 
   same-out : (o o′ : Outcome) → Fills o → Fills o′ → o .out ≡ o′ .out
   same-out o o′ F F′ =
       sym (take-append-drop (o .count) (o .out))
-      ∙ ap (λ x. x ++ drop (o .count) (o .out)) (answer-determined line _ _ (F .answer) (F′ .answer))
+      ∙ ap (λ x. x ++ drop (o .count) (o .out)) (answer-determined v line _ _ (F .answer) (F′ .answer))
       ∙ ap (λ x. take (o′ .count) (o′ .out) ++ x) (F .rest ∙ ap (λ n. drop n out₀) (same-count o o′ F F′) ∙ sym (F′ .rest))
       ∙ take-append-drop (o′ .count) (o′ .out)
 
@@ -121,7 +128,7 @@ module _ (line bytes₀ : List ℕ) (digits₀ : List ℤ) (marks₀ out₀ : Li
   pub line-determined : (o o′ : Outcome) → Keeps o → Keeps o′ → o ≡ o′
   line-determined o o′ K K′ = go enough?
     where
-      go : Dec (Lent bytes₀ digits₀ marks₀ out₀) → o ≡ o′
+      go : Dec (Lent v bytes₀ digits₀ marks₀ out₀) → o ≡ o′
       go (yes l) =
           let F = K .enough l in
           let F′ = K′ .enough l in

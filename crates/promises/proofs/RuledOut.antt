@@ -1,15 +1,16 @@
 -- Calls that cannot keep their promise: refusing everything, one fixed string for all scalars, not writing at all, writing on a refusal, two refusals in the other
--- order, invented step counts, a cost without its doubling, a verdict that does not depend on the scalar. Each is a theorem: a call with that behaviour that kept its promise at every input would give a contradiction. Assumes nothing.
+-- order, invented step counts, a cost without its doubling, a verdict that does not depend on the scalar, places read in any order, a weight left unread. Each is a theorem: a call with that behaviour that kept its promise at every input would give a
+-- contradiction. Assumes nothing.
 use mathlib.Core.Path.{_≡_, refl, sym, ap, _∙_}
 use mathlib.Core.Logic.{_≢_, _⊎_, inl, inr, ⊎-elim}
-use mathlib.Core.List.{List, [], _∷_}
+use mathlib.Core.List.{List, [], _∷_, _++_}
 use Prim.Native.Nat.{ℕ, zero, suc, _+_, _<_}
 use native.Mathlib.Omega.{arith}
 use lib.Dec.{lit<, lit≤}
 use lib.IntN.{ℤ, pos, negsuc, natAbs}
 use lib.ListN.{length, getD, take, replicate, List·getD-eq-default}
 use Rattle.meaning.specs.Scalars.{Order, highestFirst, number, bitCount}
-use Rattle.meaning.specs.Digits.{worth, weight, nonzero, inSet, allIn, Tally, Apart}
+use Rattle.meaning.specs.Digits.{worth, weight, top, nonzero, inSet, allIn, listed, Tally, Apart}
 use Rattle.meaning.specs.Refusals.{Rule, First}
 use Rattle.meaning.specs.Forms.{asked, Has}
 use Rattle.meaning.specs.Recoding.{recodeRules}
@@ -18,8 +19,9 @@ use Rattle.meaning.specs.Walks.{doublings, additions}
 use Rattle.meaning.specs.Taping.{Taped}
 use Rattle.meaning.specs.Running.{runRules, Run, Ran}
 use Rattle.meaning.specs.Searching.{searchRules, Searched, Search}
-use Rattle.meaning.specs.Hexadecimal.{nibble, allHex, bytesOf, written}
-use Rattle.meaning.specs.Frames.{malformed, lineRules, Answer}
+use Rattle.meaning.specs.Hexadecimal.{nibble, allHex, inPairs, bytesOf, written}
+use Rattle.meaning.specs.Frames.{digitBytes, digitOf, entriesOf, rising, digitAt, Version, version1, version2, lineOf, writeRules, Framed, Write, isSparse, placesIn, digitsIn, stated, lacking, unreadable, inOrder, unfit, readRules, Parsed, Read}
+use Rattle.meaning.specs.Requests.{malformed, lineRules, Answer}
 use Rattle.forms.specs.Wnaf.{wnafDigit, wnafNext, wnafFrom}
 use Rattle.forms.proofs.Refusals.{first-only, first-at, first-none, kept-lent, granted-all}
 use Rattle.forms.proofs.Wnaf.{wnaf-is}
@@ -34,7 +36,7 @@ use Rattle.promises.proofs.Check.{Legal, check-yes, check-yes-only, non
 use Rattle.promises.proofs.Known.{Answered, allowed, answered, Written, taped, ranTo, ran, eleventh, twelfth}
 use Rattle.promises.proofs.Cost.{run-costs}
 use Rattle.promises.proofs.Demand3.{taped-additions, taped-doublings}
-use Rattle.promises.proofs.Instances.{recode-kept-by, check-kept-by, nonadjacent-kept-by, tape-kept-by, run-kept-by}
+use Rattle.promises.proofs.Instances.{recode-kept-by, check-kept-by, nonadjacent-kept-by, tape-kept-by, run-kept-by, write-kept-by, read-kept-by}
 
 -- ---- recode
 -- an outcome for every input, a scalar of bytes among it, which keeps the promise
@@ -301,10 +303,88 @@ one-line-first : First (lineRules one-line) 0 0
 unfolding one-line malformed bytesOf allHex nibble number
 one-line-first = first-none (lineRules one-line) ((λ h. h), admits 2 2 (1 ∷ []) 9 9 (allowed 2 2 tt) (lit≤ tt) (lit≤ tt) (lit≤ tt))
 
--- refusing everything: no answer begins with the number 0
-pub line-not-refusing : (call : List ℕ → List ℕ) → ((line : List ℕ) → Answer line (call line)) → ((line : List ℕ) → take 2 (call line) ≢ 48 ∷ 48 ∷ []) → ⊥
+-- refusing everything: no answer begins as a frame of its version does
+opens : (v : Version) (ds : List ℤ) (more : List ℕ) → take 2 (lineOf v ds ++ more) ≡ take 2 (lineOf v [])
 unfolding written
-line-not-refusing call keeps r =
+opens version1 ds more = refl
+opens version2 ds more = refl
+
+pub line-not-refusing : (v : Version) (call : List ℕ → List ℕ) → ((line : List ℕ) → Answer v line (call line)) → ((line : List ℕ) → take 2 (call line) ≢ take 2 (lineOf v [])) → ⊥
+line-not-refusing v call keeps r =
     let A = keeps one-line in
     let (ds, f, e) = A .accepted (first-only (lineRules one-line) (A .first) one-line-first .0) in
-    r one-line (ap (take 2) e)
+    r one-line (ap (take 2) e ∙ opens v ds _)
+
+-- ---- frames
+-- an answer to every string, and to every line, that keeps the promise
+pub record Writer : Type 0 where
+  pub call : (v : Version) (ds : List ℤ) (out₀ : List ℕ) → Framed × List ℕ
+  pub keeps : (v : Version) (ds : List ℤ) (out₀ : List ℕ) → Write v ds out₀ (call v ds out₀ .0) (call v ds out₀ .1)
+
+pub record LineReader : Type 0 where
+  pub call : (line : List ℕ) (digits₀ : List ℤ) → Parsed × List ℤ
+  pub keeps : (line : List ℕ) (digits₀ : List ℤ) → Read line digits₀ (call line digits₀ .0) (call line digits₀ .1)
+
+-- there are such
+pub writer : Writer
+writer = record { call = λ v ds out₀. write-kept-by v ds out₀ .0; keeps = λ v ds out₀. write-kept-by v ds out₀ .1 }
+
+pub line-reader : LineReader
+line-reader = record { call = λ line digits₀. read-kept-by line digits₀ .0; keeps = λ line digits₀. read-kept-by line digits₀ .1 }
+
+-- a line of version 2 with the weight k, of the two digits 1 1, from the bytes of its entries; two places are lent
+pub sparse-line : ℕ → List ℕ → List ℕ → List ℕ
+sparse-line k e f = written (0xA2 ∷ 0 ∷ k ∷ 0 ∷ 2 ∷ 0 ∷ 2 ∷ (e ++ f))
+
+pub low : List ℕ
+low = 0 ∷ 0 ∷ 1 ∷ []
+
+pub high : List ℕ
+high = 0 ∷ 1 ∷ 1 ∷ []
+
+pub two-lent : List ℤ
+two-lent = replicate 2 (pos 0)
+
+good-line : First (readRules (sparse-line 2 low high) (length two-lent)) 0 0
+unfolding sparse-line low high two-lent written bytesOf nibble allHex inPairs stated unreadable lacking isSparse placesIn unfit inOrder rising entriesOf digitOf digitsIn digitAt listed weight top nonzero
+good-line = first-none (readRules (sparse-line 2 low high) 2) ((λ h. h), ((λ h. omega arith), ((λ h. h), ((λ h. omega arith), tt))))
+
+falling-line : First (readRules (sparse-line 2 high low) (length two-lent)) 21 0
+unfolding sparse-line low high two-lent written bytesOf nibble allHex inPairs stated unreadable lacking isSparse placesIn unfit inOrder rising entriesOf digitOf digitsIn digitAt listed weight top nonzero
+falling-line = first-at (readRules (sparse-line 2 high low) 2) 2 0 ((λ h. h), ((λ h. omega arith), (tt, refl)))
+
+light-line : First (readRules (sparse-line 1 low high) (length two-lent)) 21 0
+unfolding sparse-line low high two-lent written bytesOf nibble allHex inPairs stated unreadable lacking isSparse placesIn unfit inOrder rising entriesOf digitOf digitsIn digitAt listed weight top nonzero
+light-line = first-at (readRules (sparse-line 1 low high) 2) 2 0 ((λ h. h), ((λ h. omega arith), (tt, refl)))
+
+module _ (c : LineReader) where
+  pub reads : List ℕ → ℕ
+  reads line = c .call line two-lent .0 .refusal
+
+  reads-as : (line : List ℕ) (r : ℕ) → First (readRules line (length two-lent)) r 0 → reads line ≡ r
+  unfolding reads
+  reads-as line r f = first-only (readRules line (length two-lent)) (c .keeps line two-lent .first) f .0
+
+  -- accepting places in any order: to change two entries for each other makes no difference
+  pub read-not-any-order : ((e f : List ℕ) → reads (sparse-line 2 e f) ≡ reads (sparse-line 2 f e)) → ⊥
+  read-not-any-order same =
+      let z : _≡_ {A = ℕ} 0 21 = sym (reads-as _ 0 good-line) ∙ same low high ∙ reads-as _ 21 falling-line in
+      omega arith
+
+  -- leaving the weight unread: any other makes no difference
+  pub read-not-weightless : ((k k′ : ℕ) → reads (sparse-line k low high) ≡ reads (sparse-line k′ low high)) → ⊥
+  read-not-weightless same =
+      let z : _≡_ {A = ℕ} 0 21 = sym (reads-as _ 0 good-line) ∙ same 2 1 ∙ reads-as _ 21 light-line in
+      omega arith
+
+  -- refusing everything
+  pub read-not-refusing : ((line : List ℕ) (digits₀ : List ℤ) → c .call line digits₀ .0 .refusal ≢ 0) → ⊥
+  unfolding reads
+  read-not-refusing r = r (sparse-line 2 low high) two-lent (reads-as _ 0 good-line)
+
+-- refusing everything: the empty string has a line in each version
+pub write-not-refusing : (c : Writer) → ((v : Version) (ds : List ℤ) (out₀ : List ℕ) → c .call v ds out₀ .0 .refusal ≢ 0) → ⊥
+unfolding written digitBytes weight top
+write-not-refusing c r =
+    let rules = writeRules version1 [] 10 in
+    r version1 [] (replicate 10 0) (first-only rules (c .keeps version1 [] (replicate 10 0) .first) (first-none rules ((λ h. omega arith), ((λ h. omega arith), tt))) .0)

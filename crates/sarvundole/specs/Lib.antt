@@ -3,3 +3,4 @@ pub mod Reads
 pub mod Runs
 pub mod Kept
 pub mod Steps
+pub mod Versions

@@ -6,15 +6,21 @@ ghost use Rattle.meaning.specs.Checking.{checkRules, nonadjacentRules, Check};
 ghost use Rattle.meaning.specs.Taping.{Tape};
 ghost use Rattle.meaning.specs.Running.{Run};
 ghost use Rattle.meaning.specs.Searching.{Search};
+ghost use Rattle.meaning.specs.Frames.{Write, Read};
 ghost use Rattle.digits.specs.Tallies.{told};
 ghost use Rattle.tape.specs.Answers.{taped};
 ghost use Rattle.search.specs.Answers.{searched};
+ghost use Rattle.frames.specs.Told.{versionOf, framed, parsed};
 ghost use Rattle.reader.specs.States.{After};
 ghost use Rattle.sarvundole.specs.Runs.{ran};
 ghost use Rattle.sarvundole.specs.Reads.{Tells, Reads};
 ghost use Rattle.sarvundole.specs.Kept.{stateOf, Small};
 ghost use Rattle.sarvundole.specs.Steps.{Steps};
+ghost use Rattle.sarvundole.specs.Versions.{numbered};
 use digits::Tally;
+use frames::Framed;
+use frames::Parsed;
+use frames::Version;
 use reader::Next;
 use reader::State;
 use run::Cost;
@@ -230,4 +236,29 @@ pub extern "C" fn sarvundole_search(number: u32, width: u8) -> Searched
     ensures { λ r. ⌜ Search number width (searched r) ⌝ }
 {
     search::search(number, width)
+}
+
+// ---- frames
+// The version of a byte: 1 is version 1, and anything else version 2.
+fn version(number: u8) -> Version
+    ensures { λ r. ⌜ versionOf r ≡ numbered number ⌝ }
+{
+    if number == 1 {
+        return Version::Plain;
+    }
+    Version::Sparse
+}
+
+#[no_mangle]
+pub extern "C" fn sarvundole_write(number: u8, digits: &[i8], line: &mut [u8]) -> Framed
+    ensures { λ r. ⌜ Write (numbered number) (now (digits .entry)) (now (line .entry)) (framed r) (now (line .exit)) ⌝ }
+{
+    frames::write(version(number), digits, line)
+}
+
+#[no_mangle]
+pub extern "C" fn sarvundole_read(line: &[u8], digits: &mut [i8]) -> Parsed
+    ensures { λ r. ⌜ Read (now (line .entry)) (now (digits .entry)) (parsed r) (now (digits .exit)) ⌝ }
+{
+    frames::read(line, digits)
 }

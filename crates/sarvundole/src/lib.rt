@@ -2,6 +2,11 @@
 pub mod exported;
 
 pub use digits::Tally;
+pub use frames::Framed;
+pub use frames::Parsed;
+pub use frames::Version;
+pub use frames::read;
+pub use frames::write;
 pub use judge::check;
 pub use judge::check_nonadjacent;
 pub use reader::Next;

@@ -1,3 +1,3 @@
 -- Laws of streams of lines.
 pub mod Streams
-pub mod Framed
+pub mod Answering

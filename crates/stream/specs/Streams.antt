@@ -6,7 +6,7 @@ use mathlib.Core.Logic.{_⊎_}
 use Prim.Native.Nat.{ℕ, _+_, _<_, _≤_}
 use lib.ListN.{length, take, drop}
 use Rattle.meaning.specs.Lines.{Each}
-use Rattle.meaning.specs.Frames.{mostCharacters}
+use Rattle.meaning.specs.Requests.{mostCharacters}
 use Rattle.cutter.specs.Cuts.{ended, begun, last, Keeps}
 use Rattle.stream.specs.declared.Fed.{Fed}
 

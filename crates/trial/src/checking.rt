@@ -1,5 +1,5 @@
 // Calls 02 and 03: width 1, scalar length 1, scalar, digits. They answer refusal 1, place 2, weight 2, top 2.
-use crate::frames;
+use crate::asked;
 use crate::lent;
 use crate::print;
 use scalar::Order;
@@ -25,7 +25,7 @@ fn made(
     requires { ⌜ 14 ≤ length (now out) ⌝ }
     ensures { λ r. ⌜ r ≡ 14 ⌝ }
 {
-    frames::digits(given, digits);
+    asked::digits(given, digits);
     let verdict = if nonadjacent {
         judge::check_nonadjacent(width, order, scalar, digits)
     } else {
@@ -49,7 +49,7 @@ pub fn answer(nonadjacent: bool, order: Order, frame: &[u8], out: &mut [u8]) -> 
         return 0;
     }
     let bytes = frame[2] as usize;
-    if frames::BYTES < bytes {
+    if asked::BYTES < bytes {
         return 0;
     }
     let end = HEAD + bytes;
@@ -57,7 +57,7 @@ pub fn answer(nonadjacent: bool, order: Order, frame: &[u8], out: &mut [u8]) -> 
         return 0;
     }
     let places = frame.len() - end;
-    if frames::PLACES < places {
+    if asked::PLACES < places {
         return 0;
     }
     let mut digits = lent::digits();

@@ -1,11 +1,11 @@
 // Numbers written to lent memory. Each function writes from an index on and gives the index after what it wrote.
-use crate::frames;
+use crate::asked;
 ghost use mathlib.Core.Path.{_≡_};
 ghost use Prim.Native.Nat.{_+_, _*_, _≤_};
 ghost use lib.ListN.{length};
 
-// The longest answer, its line feed counted: a tape's with its fields, where all the words that the program has are lent.
-pub const MOST: usize = 2 * (9 + 2 * frames::WORDS) + 1;
+// The longest answer, its line feed counted: that of a written frame with its fields, where all the characters that the program has are lent.
+pub const MOST: usize = 2 * (3 + asked::CHARACTERS) + 1;
 
 // A number of so many bytes, the high byte first.
 pub fn number(x: u64, bytes: usize, at: usize, out: &mut [u8]) -> usize

@@ -1,5 +1,5 @@
 // Call 06: width 1, calls 2, scalar. It answers refusal 1, then for each call 01 and the digit, or 0000 for done.
-use crate::frames;
+use crate::asked;
 use crate::print;
 use reader::Next;
 use scalar::Order;
@@ -50,11 +50,11 @@ pub fn answer(order: Order, frame: &[u8], out: &mut [u8]) -> usize
     if frame.len() < HEAD {
         return 0;
     }
-    let calls = frames::two(frame, 2) as usize;
-    if frames::CALLS < calls {
+    let calls = asked::two(frame, 2) as usize;
+    if asked::CALLS < calls {
         return 0;
     }
-    if frames::BYTES < frame.len() - HEAD {
+    if asked::BYTES < frame.len() - HEAD {
         return 0;
     }
     made(frame[1], order, &frame[HEAD..], calls, out)

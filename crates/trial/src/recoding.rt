@@ -1,5 +1,5 @@
 // Call 01: form 1, width 1, places lent 2, mark words lent 1, scalar. It answers refusal 1, place 2, weight 2, top 2, digits, marks.
-use crate::frames;
+use crate::asked;
 use crate::lent;
 use crate::print;
 use scalar::Order;
@@ -11,7 +11,7 @@ ghost use Rattle.trial.specs.Room.{mostAnswer, Answered};
 // The bytes before the scalar, with the call's own.
 const HEAD: usize = 6;
 
-fn put_digits(digits: &[i8], at: usize, out: &mut [u8]) -> usize
+pub fn put_digits(digits: &[i8], at: usize, out: &mut [u8]) -> usize
     requires { ⌜ at + 2 * length (now digits) ≤ length (now out) ⌝ }
     ensures { λ r. ⌜ r ≡ at + 2 * length (now (digits .entry)) ⌝ }
 {
@@ -64,15 +64,15 @@ pub fn answer(order: Order, frame: &[u8], out: &mut [u8]) -> usize
     if frame.len() < HEAD {
         return 0;
     }
-    let places = frames::two(frame, 3) as usize;
+    let places = asked::two(frame, 3) as usize;
     let words = frame[5] as usize;
-    if frames::PLACES < places {
+    if asked::PLACES < places {
         return 0;
     }
-    if frames::MARK_WORDS < words {
+    if asked::MARK_WORDS < words {
         return 0;
     }
-    if frames::BYTES < frame.len() - HEAD {
+    if asked::BYTES < frame.len() - HEAD {
         return 0;
     }
     let mut digits = lent::digits();

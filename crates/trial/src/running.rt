@@ -1,6 +1,6 @@
 // Call 05: width 1, multiples lent 2, modulus 4, base 4, tape words. It answers refusal 1, place 2, residue 4, doublings 2, additions 2, cost additions 2, cost
 // doublings 2, the multiples lent.
-use crate::frames;
+use crate::asked;
 use crate::lent;
 use crate::print;
 use run::Outcome;
@@ -75,7 +75,7 @@ fn made(
     requires { ⌜ 30 + 8 * length (now multiples) ≤ length (now out) ⌝ }
     ensures { λ r. ⌜ r ≡ 30 + 8 * length (now (multiples .entry)) ⌝ }
 {
-    frames::words(given, tape);
+    asked::words(given, tape);
     let ran = run::run(width, tape, modulus, base, multiples);
     let at = put_ran(ran, out);
     put_multiples(multiples, at, out)
@@ -89,8 +89,8 @@ pub fn answer(frame: &[u8], out: &mut [u8]) -> usize
     if frame.len() < HEAD {
         return 0;
     }
-    let count = frames::two(frame, 2) as usize;
-    if frames::MULTIPLES < count {
+    let count = asked::two(frame, 2) as usize;
+    if asked::MULTIPLES < count {
         return 0;
     }
     let bytes = frame.len() - HEAD;
@@ -98,7 +98,7 @@ pub fn answer(frame: &[u8], out: &mut [u8]) -> usize
         return 0;
     }
     let given = bytes / 2;
-    if frames::WORDS < given {
+    if asked::WORDS < given {
         return 0;
     }
     let mut words = lent::words();
@@ -107,8 +107,8 @@ pub fn answer(frame: &[u8], out: &mut [u8]) -> usize
         frame[1],
         &frame[HEAD..],
         &mut words[..given],
-        frames::four(frame, 4),
-        frames::four(frame, 8),
+        asked::four(frame, 4),
+        asked::four(frame, 8),
         &mut multiples[..count],
         out,
     )

@@ -1,5 +1,5 @@
 // Call 07: width 1, number 4, and nothing after them. It answers refusal 1, weight 1.
-use crate::frames;
+use crate::asked;
 use crate::print;
 ghost use Prim.Native.Nat.{_≤_};
 ghost use lib.ListN.{length};
@@ -16,7 +16,7 @@ pub fn answer(frame: &[u8], out: &mut [u8]) -> usize
     if frame.len() != ALL {
         return 0;
     }
-    let searched = search::search(frames::four(frame, 2), frame[1]);
+    let searched = search::search(asked::four(frame, 2), frame[1]);
     let at = print::number(searched.refusal as u64, 1, 0, out);
     print::number(searched.weight as u64, 1, at, out)
 }

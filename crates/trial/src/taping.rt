@@ -1,5 +1,5 @@
 // Call 04: width 1, words lent 2, digits. It answers refusal 1, place 2, words 2, doublings 2, additions 2, the words lent.
-use crate::frames;
+use crate::asked;
 use crate::lent;
 use crate::print;
 ghost use mathlib.Core.Path.{_≡_};
@@ -29,7 +29,7 @@ fn made(width: u8, given: &[u8], digits: &mut [i8], words: &mut [u16], out: &mut
     requires { ⌜ 18 + 4 * length (now words) ≤ length (now out) ⌝ }
     ensures { λ r. ⌜ r ≡ 18 + 4 * length (now (words .entry)) ⌝ }
 {
-    frames::digits(given, digits);
+    asked::digits(given, digits);
     let taped = tape::tape(width, digits, words);
     let at = print::fields(
         taped.refusal,
@@ -50,12 +50,12 @@ pub fn answer(frame: &[u8], out: &mut [u8]) -> usize
     if frame.len() < HEAD {
         return 0;
     }
-    let count = frames::two(frame, 2) as usize;
-    if frames::WORDS < count {
+    let count = asked::two(frame, 2) as usize;
+    if asked::WORDS < count {
         return 0;
     }
     let places = frame.len() - HEAD;
-    if frames::PLACES < places {
+    if asked::PLACES < places {
         return 0;
     }
     let mut digits = lent::digits();

@@ -6,35 +6,37 @@ use native.Mathlib.Omega.{arith}
 use lib.ListN.{length, length-drop}
 use borrow.Author.Tests.{leb-true, leb-false}
 use denote.Ref.{now}
-use Rattle.meaning.specs.Frames.{Answer}
-use Rattle.frames.specs.Answered.{mostAnswer}
+use Rattle.meaning.specs.Requests.{Answer}
+use Rattle.frames.specs.Told.{versionOf}
 use Rattle.stream.proofs.Streams.{Feeding, feed-none, feed-more, step-moves, moved}
-use Rattle.stream.proofs.Framed.{Sized, sized-start, lent-still}
+use Rattle.stream.proofs.Answering.{Sized, sized-start, lent-still}
 use Rattle.stream.proofs.feed.Statement.{statement}
 use Rattle.stream.proofs.feed.Tie as tie
 
 abbrev Inv-loop : tie.InvT-loop
-Inv-loop piece line₀ kept bytes₀ digits₀ marks₀ out₀ room used₀ kept₀ filled₀ line bytes digits marks out used kept' filled =
-    Sized line₀ bytes₀ digits₀ marks₀ out₀ line bytes digits marks out × Feeding Answer piece line₀ kept out₀ line out used kept' filled
+Inv-loop version piece line₀ kept bytes₀ digits₀ marks₀ out₀ room used₀ kept₀ filled₀ line bytes digits marks out used kept' filled =
+    Sized line₀ bytes₀ digits₀ marks₀ out₀ line bytes digits marks out × Feeding (Answer (versionOf version)) piece line₀ kept out₀ line out used kept' filled
 
 abbrev μ-loop : tie.MeasureT-loop
-μ-loop piece line₀ kept bytes₀ digits₀ marks₀ out₀ room used₀ kept₀ filled₀ line bytes digits marks out used kept' filled =
+μ-loop version piece line₀ kept bytes₀ digits₀ marks₀ out₀ room used₀ kept₀ filled₀ line bytes digits marks out used kept' filled =
     length piece - used
 
 -- a step moves on, and not past the end
 moves : (c : tie.After-step Inv-loop μ-loop)
     → let l = c .before .before .before .before .before .before .before .before .before in
-    (l .loop .used < l .loop .used + c .step .result .used) × (l .loop .used + c .step .result .used ≤ length (now (l .before .before .before .before .before .before .args .piece)))
-moves c = step-moves Answer (c .before .before .before .before .before .before .before .before .before .loop .inv .1) (c .before .before .before .before .before .before .before .before .loop-test .taken) (c .step .ensures)
+    (l .loop .used < l .loop .used + c .step .result .used) × (l .loop .used + c .step .result .used ≤ length (now (l .before .before .before .before .before .before .before .args .piece)))
+moves c =
+    let s = c .before .before .before .before .before .before .before .before .before .before .before .before .before .before .before .before in
+    step-moves (Answer (versionOf (s .args .version))) (c .before .before .before .before .before .before .before .before .before .loop .inv .1) (c .before .before .before .before .before .before .before .before .loop-test .taken) (c .step .ensures)
 
 sub-room : tie.Need-sub-room Inv-loop μ-loop
-sub-room c = omega (arith, c .before .before .before .before .before .pre .1 .answer-fits)
+sub-room c = omega (arith, c .most .ensures, c .before .before .before .before .before .before .pre .1 .answer-fits)
 
 loop-holds : tie.Need-loop-holds Inv-loop μ-loop
 loop-holds c =
-    let s = c .before .before .before .before .before in
+    let s = c .before .before .before .before .before .before in
     let a = s .args in
-    (sized-start (now (a .line)) (now (a .bytes)) (now (a .digits)) (now (a .marks)) (now (a .out)), feed-none Answer (now (a .piece)) (now (a .line)) (a .kept) (now (a .out)) (s .pre .0 .0))
+    (sized-start (now (a .line)) (now (a .bytes)) (now (a .digits)) (now (a .marks)) (now (a .out)), feed-none (Answer (versionOf (a .version))) (now (a .piece)) (now (a .line)) (a .kept) (now (a .out)) (s .pre .0 .0))
 
 sub-step : tie.Need-sub-step Inv-loop μ-loop
 sub-step c = omega arith
@@ -48,11 +50,11 @@ part-step-end c = omega arith
 step-requires : tie.Need-step-requires Inv-loop μ-loop
 step-requires c κs =
     let l = c .before .before .before .before .before .before .before .before in
-    let s = l .before .before .before .before .before .before in
+    let s = l .before .before .before .before .before .before .before in
     let i = l .loop .inv .1 in
     let z = l .loop .inv .0 in
     let still = lent-still z (s .pre .1) in
-    let room = leb-true (l .loop .filled) (length (now (s .args .out)) - mostAnswer) (c .before .before .before .before .before .before .if1 .taken) in (
+    let room = leb-true (l .loop .filled) (length (now (s .args .out)) - l .before .most .result) (c .before .before .before .before .before .before .if1 .taken) in (
       (i .kept-within, omega (arith, s .pre .0 .1, z .line-length)),
       (
         i .filled-within,
@@ -60,7 +62,7 @@ step-requires c κs =
           bytes-fit = still .bytes-fit;
           digits-fit = still .digits-fit;
           marks-fit = still .marks-fit;
-          answer-fits = omega (arith, room, still .answer-fits, z .out-length, length-drop (l .loop .filled) (l .loop .out));
+          answer-fits = omega (arith, room, l .before .most .ensures, still .answer-fits, z .out-length, length-drop (l .loop .filled) (l .loop .out));
         },
       ),
     )
@@ -78,27 +80,27 @@ loop-again c =
     let z = l .loop .inv .0 in
     let k = w .step .kept in (
       record {
-        line-length = k .1 .0 ∙ z .line-length;
-        bytes-length = k .1 .1 .0 ∙ z .bytes-length;
-        digits-length = k .1 .1 .1 .0 ∙ z .digits-length;
-        marks-length = k .1 .1 .1 .1 .0 ∙ z .marks-length;
-        out-length = k .1 .1 .1 .1 .1 .0 ∙ z .out-length;
+        line-length = k .1 .1 .0 ∙ z .line-length;
+        bytes-length = k .1 .1 .1 .0 ∙ z .bytes-length;
+        digits-length = k .1 .1 .1 .1 .0 ∙ z .digits-length;
+        marks-length = k .1 .1 .1 .1 .1 .0 ∙ z .marks-length;
+        out-length = k .1 .1 .1 .1 .1 .1 .0 ∙ z .out-length;
       },
-      feed-more Answer (l .loop .inv .1) (w .before .before .before .before .before .before .before .before .loop-test .taken) (w .step .ensures),
+      feed-more (Answer (versionOf (l .before .before .before .before .before .before .before .args .version))) (l .loop .inv .1) (w .before .before .before .before .before .before .before .before .loop-test .taken) (w .step .ensures),
     )
 
 returns : tie.Need-returns Inv-loop μ-loop
 returns c =
     let l = c .before .before in
-    let s = l .before .before .before .before .before .before in
+    let s = l .before .before .before .before .before .before .before in
     let i = l .loop .inv .1 in
-    let full = leb-false (l .loop .filled) (length (now (s .args .out)) - mostAnswer) (c .if1 .left) in
+    let full = leb-false (l .loop .filled) (length (now (s .args .out)) - l .before .most .result) (c .if1 .left) in
     record {
       used-within = i .used-within;
       kept-within = i .kept-within;
       filled-within = i .filled-within;
       moves = λ h. moved (l .loop .used) (l .loop .filled) (i .start) (omega (arith, full));
-      stops = inr (omega (arith, full, l .loop .inv .0 .out-length, s .pre .1 .answer-fits));
+      stops = inr (omega (arith, full, l .before .most .ensures, l .loop .inv .0 .out-length, s .pre .1 .answer-fits));
       taken = i .taken;
     }
 
@@ -117,7 +119,7 @@ returns-2 c =
 pub feed-spec : {M : Type 1} → statement M
 feed-spec =
     tie.close
-    (tie.spec Inv-loop μ-loop sub-room loop-holds sub-step part-step-start part-step-end step-requires add-used loop-less loop-again
+    (tie.spec Inv-loop μ-loop (λ c κs. tt) sub-room loop-holds sub-step part-step-start part-step-end step-requires add-used loop-less loop-again
     (λ c. c .before .before .loop .inv .0 .line-length) (λ c. c .before .before .loop .inv .0 .bytes-length) (λ c. c .before .before .loop .inv .0 .digits-length)
     (λ c. c .before .before .loop .inv .0 .marks-length) (λ c. c .before .before .loop .inv .0 .out-length) returns (λ c. c .before .loop .inv .0 .line-length)
     (λ c. c .before .loop .inv .0 .bytes-length) (λ c. c .before .loop .inv .0 .digits-length) (λ c. c .before .loop .inv .0 .marks-length)

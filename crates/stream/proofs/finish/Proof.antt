@@ -3,10 +3,11 @@ use mathlib.Core.Path.{sym, subst}
 use native.Mathlib.Omega.{arith}
 use lib.Seq.{length-take-le}
 use denote.Ref.{now}
-use Rattle.meaning.specs.Frames.{Answer}
+use Rattle.meaning.specs.Requests.{Answer}
+use Rattle.frames.specs.Told.{versionOf}
 use Rattle.cutter.specs.Cuts.{Keeps}
 use Rattle.stream.proofs.Streams.{last-none, last-some}
-use Rattle.stream.proofs.Framed.{answer-kept}
+use Rattle.stream.proofs.Answering.{answer-kept}
 use borrow.Author.Needs.{needs}
 use Rattle.stream.proofs.finish.Statement.{statement}
 use Rattle.stream.proofs.finish.Tie as tie
@@ -15,7 +16,7 @@ returns : tie.Need-returns
 returns c =
     let s = c .before .before .before .before .before in
     let line = now (s .args .line) in
-    record { within = omega arith; answers = λ p k. last-none Answer p line (omega (arith, s .pre .0 .1)) (subst (Keeps p line) (c .if1 .taken) k) }
+    record { within = omega arith; answers = λ p k. last-none (Answer (versionOf (s .args .version))) p line (omega (arith, s .pre .0 .1)) (subst (Keeps p line) (c .if1 .taken) k) }
 
 slice-aggregate-answer : tie.Need-slice-aggregate-answer
 slice-aggregate-answer c = sym (length-take-le _ _ (omega arith))
@@ -27,7 +28,7 @@ returns-2 c =
     let F = w .answer .ensures .enough (s .pre .1) in
     record {
       within = F .within;
-      answers = λ p k. last-some Answer p (now (s .args .line)) (s .args .kept) k (w .before .before .before .before .before .before .if1 .left) _ (answer-kept k (s .pre .0 .1) _ (F .answer));
+      answers = λ p k. last-some (Answer (versionOf (s .args .version))) p (now (s .args .line)) (s .args .kept) k (w .before .before .before .before .before .before .if1 .left) _ (answer-kept k (s .pre .0 .1) _ (F .answer));
     }
 
 pub finish-spec : {M : Type 1} → statement M
