@@ -158,12 +158,29 @@ static string closest(string d, uint8_t order, const uint8_t *s, size_t bytes, u
     return sweep(d, order, s, bytes, w, 0);
 }
 
-sarvundole_tally baseline_recode(uint8_t form, uint8_t width, uint8_t order, const uint8_t *scalar, size_t bytes, int8_t *digits, size_t places,
-                                 uint64_t *marks, size_t words) {
+/* Byte q of a number from its low end, 0 past its bytes. */
+static unsigned nth(uint8_t order, const uint8_t *s, size_t bytes, size_t q) { return q < bytes ? s[order ? q : bytes - 1 - q] : 0; }
+
+/* 19 or 20 where the scalar is not one below the group's order, else 0. */
+static uint8_t outside(uint8_t order, const uint8_t *scalar, size_t bytes, const uint8_t *group, size_t group_bytes) {
+    size_t zeros = 0, q = bytes < group_bytes ? group_bytes : bytes;
+    if (group_bytes > SARVUNDOLE_MOST_BYTES) return 19;
+    while (zeros < group_bytes && !group[zeros]) zeros++;
+    if (zeros == group_bytes) return 19;
+    while (q-- > 0) {
+        const unsigned x = nth(order, scalar, bytes, q), y = nth(0, group, group_bytes, q);
+        if (x != y) return x < y ? 0 : 20;
+    }
+    return 20;
+}
+
+static inline sarvundole_tally recode_by(uint8_t form, uint8_t width, uint8_t order, const uint8_t *scalar, size_t bytes, int below, const uint8_t *group,
+                                         size_t group_bytes, int8_t *digits, size_t places, uint64_t *marks, size_t words) {
     sarvundole_tally t = {0, 0, 0, 0};
     if (form < 1 || form > 5) t.refusal = 1;
     else if (bad_width(width) || (form == SARVUNDOLE_MOF && width != 2)) t.refusal = 2;
     else if (bytes > SARVUNDOLE_MOST_BYTES) t.refusal = 3;
+    else if (below && (t.refusal = outside(order, scalar, bytes, group, group_bytes))) return t;
     else if (places < 8 * bytes + 1) t.refusal = 4;
     else if (words < SARVUNDOLE_MARK_WORDS) t.refusal = 5;
     if (t.refusal) return t;
@@ -177,6 +194,16 @@ sarvundole_tally baseline_recode(uint8_t form, uint8_t width, uint8_t order, con
     t.weight = (uint16_t)d.weight;
     t.top = (uint16_t)d.top;
     return t;
+}
+
+sarvundole_tally baseline_recode(uint8_t form, uint8_t width, uint8_t order, const uint8_t *scalar, size_t bytes, int8_t *digits, size_t places,
+                                 uint64_t *marks, size_t words) {
+    return recode_by(form, width, order, scalar, bytes, 0, NULL, 0, digits, places, marks, words);
+}
+
+sarvundole_tally baseline_recode_below(uint8_t form, uint8_t width, uint8_t order, const uint8_t *scalar, size_t bytes, const uint8_t *group, size_t group_bytes,
+                                       int8_t *digits, size_t places, uint64_t *marks, size_t words) {
+    return recode_by(form, width, order, scalar, bytes, 1, group, group_bytes, digits, places, marks, words);
 }
 
 /* ---- digits as a whole. What these loops do at a digit is no branch, and each runs to the string's end, so that the compiler takes many digits at a time. */

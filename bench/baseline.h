@@ -6,6 +6,8 @@
 
 sarvundole_tally baseline_recode(uint8_t form, uint8_t width, uint8_t order, const uint8_t *scalar, size_t bytes, int8_t *digits, size_t places,
                                  uint64_t *marks, size_t words);
+sarvundole_tally baseline_recode_below(uint8_t form, uint8_t width, uint8_t order, const uint8_t *scalar, size_t bytes, const uint8_t *group, size_t group_bytes,
+                                       int8_t *digits, size_t places, uint64_t *marks, size_t words);
 sarvundole_tally baseline_check(uint8_t width, uint8_t order, const uint8_t *scalar, size_t bytes, const int8_t *digits, size_t places);
 sarvundole_tally baseline_check_nonadjacent(uint8_t width, uint8_t order, const uint8_t *scalar, size_t bytes, const int8_t *digits, size_t places);
 sarvundole_taped baseline_tape(uint8_t width, const int8_t *digits, size_t places, uint16_t *words, size_t room);

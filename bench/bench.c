@@ -17,8 +17,8 @@ enum { INPUTS = 512, COUNTED = 128, TURNS = 101, AGREED = 20000, ROOM_PLACES = 6
 /* One call's input and the memory that it is lent. */
 typedef struct {
     uint8_t form, width, order;
-    uint8_t scalar[80];
-    size_t bytes, places, words, room, marks_room, multiples_room, line_room, characters;
+    uint8_t scalar[80], group[80];
+    size_t bytes, group_bytes, places, words, room, marks_room, multiples_room, line_room, characters;
     uint32_t modulus, base;
     uint16_t calls;
     sarvundole_reader reader;
@@ -46,6 +46,11 @@ static void tally(output *out, sarvundole_tally t) {
 static void recode(const input *in, output *out, int library) {
     tally(out, (library ? sarvundole_recode : baseline_recode)(in->form, in->width, in->order, in->scalar, in->bytes, out->digits, in->places, out->marks,
                                                                in->marks_room));
+}
+
+static void recode_below(const input *in, output *out, int library) {
+    tally(out, (library ? sarvundole_recode_below : baseline_recode_below)(in->form, in->width, in->order, in->scalar, in->bytes, in->group, in->group_bytes,
+                                                                           out->digits, in->places, out->marks, in->marks_room));
 }
 
 static void check(const input *in, output *out, int library) {
@@ -129,12 +134,13 @@ static uint32_t chance(uint32_t below) {
 
 static uint32_t any32(void) { return chance(65536) << 16 | chance(65536); }
 
-/* An input that the calls accept: a random scalar, its string in a form, and that string's tape. */
+/* An input that the calls accept: a random scalar below an order of bytes FF, its string in a form, and that string's tape. */
 static void accepted(input *in, uint8_t form, uint8_t width, uint8_t order, size_t bytes) {
     uint64_t marks[SARVUNDOLE_MARK_WORDS];
     memset(in, 0, sizeof *in);
     in->form = form, in->width = width, in->order = order, in->bytes = bytes;
     for (size_t i = 0; i < bytes; i++) in->scalar[i] = (uint8_t)chance(256);
+    memset(in->group, 0xFF, in->group_bytes = bytes);
     in->places = 8 * bytes + 1, in->room = ROOM_WORDS, in->marks_room = SARVUNDOLE_MARK_WORDS, in->multiples_room = ROOM_MULTIPLES;
     in->modulus = any32() | 1, in->base = any32(), in->calls = (uint16_t)(8 * bytes);
     baseline_recode(form, width, order, in->scalar, bytes, in->digits, in->places, marks, SARVUNDOLE_MARK_WORDS);
@@ -145,6 +151,16 @@ static void accepted(input *in, uint8_t form, uint8_t width, uint8_t order, size
 /* The line of the input's string. */
 static void framed(input *in, uint8_t version) { in->characters = baseline_write(version, in->digits, in->places, in->line, ROOM_LINE).length; }
 
+/* Gives an order near the scalar: itself, or a byte other, and now and then bytes of nought before it, or another length. */
+static void near(input *in) {
+    const size_t front = chance(4) ? 0 : chance((uint32_t)(sizeof in->group - in->bytes));
+    memset(in->group, 0, sizeof in->group);
+    for (size_t i = 0; i < in->bytes; i++) in->group[front + i] = in->scalar[in->order ? in->bytes - 1 - i : i];
+    in->group_bytes = front + in->bytes;
+    if (in->group_bytes && chance(4)) in->group[chance((uint32_t)in->group_bytes)] ^= (uint8_t)(1 << chance(8));
+    if (!chance(8)) in->group_bytes = chance(sizeof in->group);
+}
+
 /* The same with a fault here and there, so that each refusal comes up. */
 static void any(input *in) {
     uint8_t form = (uint8_t)(1 + chance(5));
@@ -153,6 +169,7 @@ static void any(input *in) {
     if (!chance(4)) in->base = chance(140);
     in->reader = (sarvundole_reader){(uint16_t)chance(600), (uint16_t)chance(600), (uint16_t)chance(600), (uint8_t)chance(11), (int8_t)chance(256), 0, (uint8_t)chance(3)};
     if (!chance(8)) in->reader.place = (uint16_t)chance(65536), in->reader.floor = (uint16_t)chance(65536), in->reader.refusal = (uint8_t)chance(256);
+    if (!chance(2)) near(in);
     switch (chance(16)) {
     case 0: in->form = (uint8_t)chance(256); break;
     case 1: in->width = (uint8_t)chance(11); break;
@@ -296,6 +313,9 @@ int main(int words, char **given) {
         {"read, version 1", read_1, 2, 0, {2, 4, 5, 6, 8}},
         {"read, version 2", read_2, 2, 0, {2, 4, 5, 6, 8}},
         {"search", search, 2, 0, {2, 3}},
+        {"recode_below MOF", recode_below, 1, 0, {2}},
+        {"recode_below wNAF", recode_below, 2, 0, {4, 8}},
+        {"recode_below wMOF", recode_below, 3, 0, {4, 8}},
         {"recode MOF, lowest first", recode, 1, 1, {2}},
         {"recode wNAF, lowest first", recode, 2, 1, {4, 8}},
         {"recode wMOF, lowest first", recode, 3, 1, {4, 8}},

@@ -1,7 +1,8 @@
 /* From a check number to its digits, its tape and a residue, each step printed.
  *
- *     check_number [WIDTH HEX]        13 at width 2, if nothing is given
+ *     check_number [WIDTH HEX [GROUP]]        13 at width 2, if nothing is given
  *
+ * With GROUP, the order of the curve's group in hexadecimal, the number has to lie below it, as a board's has to. Without, any number is taken, as for a test.
  * Ends with 0; with 1 where a call refuses; with 2 where what is given is no width and number. Both are told on standard error. */
 #include "sarvundole.h"
 
@@ -12,14 +13,14 @@
 static const uint32_t MODULUS = 1000, BASE = 7;
 
 /* All memory is the caller's: these always suffice. */
-static uint8_t scalar[SARVUNDOLE_MOST_BYTES];
+static uint8_t scalar[SARVUNDOLE_MOST_BYTES], group[SARVUNDOLE_MOST_BYTES];
 static int8_t digits[SARVUNDOLE_MOST_PLACES];
 static uint64_t marks[SARVUNDOLE_MARK_WORDS];
 static uint16_t words[SARVUNDOLE_MOST_WORDS];
 static uint32_t multiples[SARVUNDOLE_MOST_MULTIPLES];
 
 static void wrong(const char *why, const char *given) {
-    fprintf(stderr, "check_number: %s: %s\nusage: check_number [WIDTH HEX]\n", why, given);
+    fprintf(stderr, "check_number: %s: %s\nusage: check_number [WIDTH HEX [GROUP]]\n", why, given);
     exit(2);
 }
 
@@ -41,12 +42,12 @@ static unsigned value_of(char c, const char *hex) {
     return (unsigned)(at - values) % 16;
 }
 
-/* Reads pairs of hexadecimal digits; gives the count of bytes. */
-static size_t bytes_of(const char *hex) {
+/* Reads pairs of hexadecimal digits to `to`, which has room for 66; gives the count of bytes. */
+static size_t bytes_of(const char *hex, uint8_t *to) {
     size_t count = strlen(hex) / 2;
     if (strlen(hex) % 2 != 0) wrong("an odd number of hexadecimal digits", hex);
-    if (count > sizeof scalar) wrong("over 66 bytes", hex);
-    for (size_t i = 0; i < count; i++) scalar[i] = (uint8_t)(16 * value_of(hex[2 * i], hex) + value_of(hex[2 * i + 1], hex));
+    if (count > SARVUNDOLE_MOST_BYTES) wrong("over 66 bytes", hex);
+    for (size_t i = 0; i < count; i++) to[i] = (uint8_t)(16 * value_of(hex[2 * i], hex) + value_of(hex[2 * i + 1], hex));
     return count;
 }
 
@@ -58,12 +59,14 @@ static void print_word(uint16_t word) {
 }
 
 int main(int count, char **given) {
-    if (count != 1 && count != 3) wrong("a width and a number are wanted", count == 2 ? given[1] : "more is given");
-    const uint8_t width = width_of(count == 3 ? given[1] : "2");
-    const size_t bytes = bytes_of(count == 3 ? given[2] : "0D"), places = 8 * bytes + 1;
+    if (count != 1 && count != 3 && count != 4) wrong("a width and a number are wanted", count == 2 ? given[1] : "more is given");
+    const uint8_t width = width_of(count > 1 ? given[1] : "2");
+    const size_t bytes = bytes_of(count > 1 ? given[2] : "0D", scalar), places = 8 * bytes + 1;
 
-    sarvundole_tally recoded = sarvundole_recode(SARVUNDOLE_WNAF, width, SARVUNDOLE_HIGHEST_FIRST, scalar, bytes, digits, places, marks, SARVUNDOLE_MARK_WORDS);
-    ended("recode", recoded.refusal, recoded.place);
+    sarvundole_tally recoded =
+        count == 4 ? sarvundole_recode_below(SARVUNDOLE_WNAF, width, SARVUNDOLE_HIGHEST_FIRST, scalar, bytes, group, bytes_of(given[3], group), digits, places, marks, SARVUNDOLE_MARK_WORDS)
+                   : sarvundole_recode(SARVUNDOLE_WNAF, width, SARVUNDOLE_HIGHEST_FIRST, scalar, bytes, digits, places, marks, SARVUNDOLE_MARK_WORDS);
+    ended(count == 4 ? "recode_below" : "recode", recoded.refusal, recoded.place);
     printf("digits, highest place first:");
     for (size_t j = recoded.top; j-- > 0;) printf(" %d", digits[j]);
     printf("\nweight %u, top %u\n", recoded.weight, recoded.top);

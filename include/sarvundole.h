@@ -7,7 +7,7 @@
  * a signed byte. A recoded string has exactly n + 1 places, at most 529. A tape has at most 1,057 words.
  *
  * Every call takes every input. It answers with `refusal` 0, or with the number of the first rule that the input breaks, tried in
- * the order that stands at the call, which is the rising one but for read. A refusal has its number, the place where the rule names one and otherwise 0, and 0 in every other field; lent
+ * the order in which each call here lists them. A refusal has its number, the place where the rule names one and otherwise 0, and 0 in every other field; lent
  * memory then stays as lent. Places of a buffer beyond those named are never touched.
  *
  * What is lent is a pointer and a count of elements. No value of any argument is outside what a call takes; what C cannot let a call look
@@ -27,7 +27,7 @@
 #include <stdint.h>
 
 /* This header's version. */
-#define SARVUNDOLE_VERSION "2.0.0"
+#define SARVUNDOLE_VERSION "2.1.0"
 
 #ifdef __cplusplus
 extern "C" {
@@ -48,7 +48,7 @@ enum sarvundole_form {
     SARVUNDOLE_CLOSEST_SMALLER = 5 /* the same, on a tie the one of smaller absolute value */
 };
 
-/* The refusals. 6 was struck, since n + 1 places always suffice, and is not used again. */
+/* The refusals. 6 was struck, since n + 1 places always suffice, and is not used again; 17, 18, 22 and 23 no call gives. */
 enum sarvundole_refusal {
     SARVUNDOLE_ACCEPTED = 0,
     SARVUNDOLE_BAD_FORM = 1,         /* form is not 1..5 */
@@ -66,6 +66,8 @@ enum sarvundole_refusal {
     SARVUNDOLE_FEW_MULTIPLES = 14,   /* multiples buffer under 2^(w-2) entries */
     SARVUNDOLE_BAD_WORD = 15,        /* a bad word; place is the first such */
     SARVUNDOLE_MALFORMED = 16,       /* line not all hexadecimal, not opening with 00 or A2, or lacking a field or part of one */
+    SARVUNDOLE_BAD_GROUP = 19,       /* group order empty, worth zero or over 66 bytes */
+    SARVUNDOLE_NOT_BELOW = 20,       /* scalar not below the group order, as numbers */
     SARVUNDOLE_UNFIT_FRAME = 21,     /* places not rising, a zero digit, a place not below the count, or weight or top that does not fit */
     SARVUNDOLE_SHORT_LINE = 24       /* line buffer too short */
 };
@@ -89,6 +91,8 @@ static inline const char *sarvundole_refusal_words(unsigned refusal) {
     case SARVUNDOLE_FEW_MULTIPLES: return "the multiples buffer is too short";
     case SARVUNDOLE_BAD_WORD: return "a word of the tape is bad";
     case SARVUNDOLE_MALFORMED: return "the line is malformed";
+    case SARVUNDOLE_BAD_GROUP: return "the group order is empty, worth zero or over 66 bytes";
+    case SARVUNDOLE_NOT_BELOW: return "the scalar is not below the group order";
     case SARVUNDOLE_UNFIT_FRAME: return "the parts of the frame do not fit together";
     case SARVUNDOLE_SHORT_LINE: return "the line buffer is too short";
     default: return "no refusal of this library";
@@ -190,10 +194,16 @@ typedef struct sarvundole_parsed {
     uint16_t places;
 } sarvundole_parsed;
 
-/* Recodes a scalar. Writes its n + 1 digits, and marks nonzero places in nine 64-bit words: bit j mod 64 of word j / 64 is set exactly
+/* Recodes any scalar, whatever its group: for tests. A check number is one only below its group's order: sarvundole_recode_below. Writes its n + 1 digits, and marks nonzero places in nine 64-bit words: bit j mod 64 of word j / 64 is set exactly
  * when place j is nonzero. Lent: the scalar; for writing, at least n + 1 places and 9 words. Refusals: 1, 2, 3, 4, 5. */
 sarvundole_tally sarvundole_recode(uint8_t form, uint8_t width, uint8_t order, const uint8_t *scalar, size_t bytes, int8_t *digits,
                                    size_t places, uint64_t *marks, size_t words);
+
+/* Recodes a check number: a scalar below the order of its group. The order comes highest byte first, whatever the scalar's order of bytes, in 1 to 66 bytes; the two
+ * are compared as numbers, whatever their lengths and the bytes of nought before them. Accepted, it answers and writes exactly what sarvundole_recode does. Lent:
+ * the scalar and the group order; for writing, at least n + 1 places and 9 words. Refusals, tried in this order: 1, 2, 3, 19, 20, 4, 5. */
+sarvundole_tally sarvundole_recode_below(uint8_t form, uint8_t width, uint8_t order, const uint8_t *scalar, size_t bytes, const uint8_t *group,
+                                         size_t group_bytes, int8_t *digits, size_t places, uint64_t *marks, size_t words);
 
 /* Says yes exactly when the digits are of the width and the string, of 0 to 529 places, is worth the scalar. Nothing is written.
  * Lent: the scalar and the string. Refusals: 2, 3, 7, 8, 9. */

@@ -29,7 +29,7 @@ typedef struct {
     int reading;
 } memory;
 
-static memory scalars, strings, tapes, lines, digits, marks, words, multiples, written;
+static memory scalars, groups, strings, tapes, lines, digits, marks, words, multiples, written;
 
 static void protect(const memory *m, int how) {
     if (mprotect(m->start, page, how)) abort();
@@ -107,6 +107,28 @@ static void recode(int at_end) {
     uint64_t *m = lend_to_write(&marks, count, 8, 0xA5A5A5A5A5A5A5A5u, at_end);
     put_tally(sarvundole_recode(form, width, order, lend(&scalars, bytes, at_end, frame), bytes, d, places, m, count));
     given_back(&scalars);
+    put_lent(&digits, 1);
+    put_lent(&marks, 8);
+}
+
+/* What is accepted has to be what the plain call gives. */
+static void recode_below(int at_end) {
+    uint8_t form = (uint8_t)take(1), width = (uint8_t)take(1);
+    size_t places = take(2), count = take(1), group_bytes = take(1), bytes = left - group_bytes;
+    int8_t *d = lend_to_write(&digits, places, 1, 0x5A, at_end), plain_digits[1024];
+    uint64_t *m = lend_to_write(&marks, count, 8, 0xA5A5A5A5A5A5A5A5u, at_end), plain_marks[256];
+    const uint8_t *g = lend(&groups, group_bytes, at_end, frame), *s = lend(&scalars, bytes, at_end, frame + group_bytes);
+    memset(plain_digits, 0x5A, sizeof plain_digits);
+    memset(plain_marks, 0xA5, sizeof plain_marks);
+    sarvundole_tally t = sarvundole_recode_below(form, width, order, s, bytes, g, group_bytes, d, places, m, count);
+    if (t.refusal == 0) {
+        sarvundole_tally p = sarvundole_recode(form, width, order, s, bytes, plain_digits, places, plain_marks, count);
+        if (p.refusal || p.place != t.place || p.weight != t.weight || p.top != t.top) refuse("the plain call answers otherwise");
+        if (memcmp(plain_digits, d, places) || memcmp(plain_marks, m, 8 * count)) refuse("the plain call writes otherwise");
+    }
+    put_tally(t);
+    given_back(&scalars);
+    given_back(&groups);
     put_lent(&digits, 1);
     put_lent(&marks, 8);
 }
@@ -196,7 +218,7 @@ static void worded(void) {
     const char *const none = sarvundole_refusal_words(6);
     for (unsigned a = 0; a < 300; a++) {
         const char *words = sarvundole_refusal_words(a);
-        const int given = (a != 6 && a <= SARVUNDOLE_MALFORMED) || a == SARVUNDOLE_UNFIT_FRAME || a == SARVUNDOLE_SHORT_LINE;
+        const int given = (a != 6 && a <= SARVUNDOLE_MALFORMED) || a == SARVUNDOLE_BAD_GROUP || a == SARVUNDOLE_NOT_BELOW || a == SARVUNDOLE_UNFIT_FRAME || a == SARVUNDOLE_SHORT_LINE;
         if ((strcmp(words, none) == 0) == given) refuse("a refusal has no words, or a number that is none has");
         for (unsigned b = 0; b < a && given; b++)
             if (strcmp(words, sarvundole_refusal_words(b)) == 0) refuse("two refusals have the same words");
@@ -253,6 +275,7 @@ static void call(const uint8_t *data, size_t bytes, int at_end) {
     case 5: run(at_end); break;
     case 6: read_all(at_end); break;
     case 7: search(); break;
+    case 11: recode_below(at_end); break;
     case 14: write_line(at_end); break;
     case 15: read_line(at_end); break;
     default: abort();
@@ -263,7 +286,7 @@ int main(void) {
     static char line[MOST_LINE];
     static uint8_t data[MOST_LINE / 2], before[MOST_ANSWER];
     page = (size_t)sysconf(_SC_PAGESIZE);
-    memory *const all[] = {&scalars, &strings, &tapes, &lines, &digits, &marks, &words, &multiples, &written};
+    memory *const all[] = {&scalars, &groups, &strings, &tapes, &lines, &digits, &marks, &words, &multiples, &written};
     for (size_t i = 0; i < sizeof all / sizeof *all; i++) make(all[i]);
     made_up_all();
     worded();

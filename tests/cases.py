@@ -33,6 +33,14 @@ def recode_fitting(form, width, scalar):
     return recode(form, width, 8 * len(scalar) + 1, 9, scalar)
 
 
+def below(form, width, places, marks, group, scalar):
+    return hexadecimal(bytes([11, form, width]) + places.to_bytes(2, "big") + bytes([marks, len(group)]) + group + scalar)
+
+
+def below_fitting(form, width, group, scalar):
+    return below(form, width, min(8 * len(scalar) + 1, 600), 9, group, scalar)
+
+
 def check(width, scalar, digits, call=2):
     return hexadecimal(bytes([call, width, len(scalar)]) + scalar + second.big_endian(digits, 1))
 
@@ -335,6 +343,19 @@ def recode_faults():
             yield recode(form, width, places, marks, scalar)
 
 
+def below_faults():
+    for faults in subsets((1, 2, 3, 19, 20, 4, 5)):
+        length = 67 if 3 in faults else 2
+        scalar = bytes(range(1, length + 1))
+        places = 8 * length + (0 if 4 in faults else 1)
+        orders = (b"", bytes(length), b"\xff" * 67, bytes(80)) if 19 in faults else (b"\xff" * min(length, 66),)
+        if 20 in faults and 19 not in faults:
+            orders = (shortest(min(second.number(scalar), 256**66 - 1)), b"\x01")
+        form = 6 if 1 in faults else WMOF
+        for group in orders:
+            yield below(form, 9 if 2 in faults else 2, places, 8 if 5 in faults else 9, group, scalar)
+
+
 def check_faults():
     for faults in subsets((2, 3, 7, 8, 9, 10)):
         scalar = b"\x2b" if 9 in faults else b"\x2a"
@@ -435,6 +456,44 @@ def lowest_first_edges():
             yield lowest_first(reader(width, 8 * min(len(scalar), 9) + 3, scalar))
     for line in (tape(2, 1, [1]), run(2, 1, 7, 3, [0x1000]), search(2, 5)):
         yield lowest_first(line)
+
+
+# Orders of real groups: secp256k1's and P-256's, both printed in SEC 2.
+GROUPS = [
+    0xFFFFFFFFFFFFFFFFFFFFFFFFFFFFFFFEBAAEDCE6AF48A03BBFD25E8CD0364141,
+    0xFFFFFFFF00000000FFFFFFFFFFFFFFFFBCE6FAADA7179E84F3B9CAC2FC632551,
+]
+
+
+def below_edges():
+    """About real orders and powers of 256, in bytes of every length and in either order; bytes of nought before both; refused orders."""
+    for n in GROUPS:
+        group = n.to_bytes(32, "big")
+        for off, refusal in ((-1, 0), (0, 20), (1, 20)):
+            scalar = (n + off).to_bytes(32, "big")
+            assert second.recode(WNAF, 4, scalar, [0] * 257, [0] * 9, group=group)[0][0] == refusal
+            for form, width in FORMS_AND_WIDTHS:
+                yield below_fitting(form, width, group, scalar)
+            for front, more in ((0, 0), (1, 0), (0, 1), (34, 34), (34, 0), (0, 34), (35, 35)):
+                yield below_fitting(WMOF, 4, bytes(front) + group, bytes(more) + scalar)
+                yield lowest_first(below_fitting(WMOF, 4, bytes(front) + group, scalar[::-1] + bytes(more)))
+            yield lowest_first(below_fitting(WNAF, 4, group, scalar))
+        for place in range(32):
+            for byte in (-1, 1):
+                other = n + byte * 256**place
+                if 0 <= other < 256**32:
+                    yield below_fitting(WNAF, 5, group, other.to_bytes(32, "big"))
+                    yield lowest_first(below_fitting(WNAF, 5, group, other.to_bytes(32, "little")))
+    for k in (0, 1, 7, 8, 9, 32, 65):
+        for off in (-1, 0, 1):
+            n = 256**k + off
+            for group in (1, 256**k - 1, 256**k, 256**k + 1, 256**66 - 1):
+                for size in {(n.bit_length() + 7) // 8, 66}:
+                    yield below_fitting(WNAF, 3, shortest(group), n.to_bytes(size, "big"))
+    for size in (0, 1, 2, 66, 67, 80):
+        for group in (bytes(size), b"\xff" * size, bytes(max(size - 1, 0)) + b"\x01"):
+            for scalar in (b"", b"\x00", b"\x01", b"\x00\xff", b"\xff" * 66, bytes(67)):
+                yield below_fitting(WMOF, 3, group, scalar)
 
 
 def on_places(places, digits):
@@ -634,6 +693,7 @@ def trial_malformed():
         run(3, 3, 10, 9, [0x1001, 0, 0x3000]),
         reader(3, 4, b"\x2a"),
         search(3, 42),
+        below_fitting(WNAF, 3, b"\x2b", b"\x2a"),
         write(2, 40, [0, -3, 0, 0, 3]),
         read(6, second.frame_of(2, [0, -3, 0, 0, 3])),
     ]
@@ -665,6 +725,10 @@ def at_the_limits():
         yield run(2, 1, 7, 3, [0x1000] * (1100 + more))
         yield reader(2, 700 + more, b"\x01")
         yield reader(2, 1, bytes(80 + more))
+        yield below(WNAF, 3, 600 + more, 9, b"\x2b", b"\x2a")
+        yield below(WNAF, 3, 9, 12 + more, b"\x2b", b"\x2a")
+        yield below(WNAF, 3, 9, 9, bytes(80 + more), b"\x2a")
+        yield below(WNAF, 3, 9, 9, b"\x2b", bytes(80 + more))
         yield write(2, 3300 + more, [1])
         yield write(2, 50, [1] * (600 + more))
         yield read(600 + more, b"01")
@@ -693,6 +757,22 @@ def any_recode(rng):
     scalar = scalar_like(rng, some_length(rng))
     places = 8 * len(scalar) + 1 + rng.choice([0, 0, 0, 0, 1, 5, -1])
     return recode(form, width, min(places, 600), rng.choice([9, 9, 9, 9, 10, 8]), scalar)
+
+
+def any_below(rng):
+    """An order near the scalar, mostly: some off, one byte off, the same, or any; with bytes of nought before either."""
+    form, width = some_form(rng)
+    scalar = scalar_like(rng, some_length(rng))
+    n = second.number(scalar)
+    kind = rng.randrange(6)
+    if kind == 0:
+        group = scalar_like(rng, some_length(rng))
+    else:
+        off = [1, rng.choice([-1, 0, 0, 1, 2]), 256 ** rng.randrange(len(scalar) + 1), -(256 ** rng.randrange(len(scalar) + 1)), rng.randrange(1, 2**64)][kind - 1]
+        group = shortest(max(n + off, 0))
+        group = bytes(rng.choice([0, 0, 0, 1, max(len(scalar) - len(group), 0)])) + group
+    places = 8 * len(scalar) + 1 + rng.choice([0, 0, 0, 0, 0, 1, 5, -1])
+    return below(form, width, min(places, 600), rng.choice([9, 9, 9, 9, 9, 10, 8]), group, scalar)
 
 
 def any_check(rng):
@@ -764,13 +844,16 @@ def any_search(rng):
 
 
 def any_lowest_first(rng, line):
-    """The call on bytes that come lowest first: the same bytes, or for a check the same number, so that strings stay worth it."""
+    """The call on bytes that come lowest first: the same bytes, or for a check and beside a group order mostly the same number."""
     call = int(line[:2], 16)
     if call in (2, 3) and rng.random() < 0.8:
         end = 6 + 2 * int(line[4:6], 16)
         scalar = bytes.fromhex(line[6:end].decode("ascii"))
         line = line[:6] + hexadecimal(scalar[::-1]) + line[end:]
-    return lowest_first(line) if call in (1, 2, 3, 6) or rng.random() < 0.1 else line
+    if call == 11 and rng.random() < 0.8:
+        start = 14 + 2 * int(line[12:14], 16)
+        line = line[:start] + hexadecimal(bytes.fromhex(line[start:].decode("ascii"))[::-1])
+    return lowest_first(line) if call in (1, 2, 3, 6, 11) or rng.random() < 0.1 else line
 
 
 def frame_string(rng):
@@ -818,7 +901,7 @@ def any_read(rng):
 
 def some_trial_line(rng):
     """A line for the trial program, mostly good."""
-    line = rng.choice([any_recode, any_check, any_check, any_tape, any_run, any_reader, any_search, any_write, any_read, any_read])(rng)
+    line = rng.choice([any_recode, any_below, any_check, any_check, any_tape, any_run, any_reader, any_search, any_write, any_read, any_read])(rng)
     if rng.randrange(3) == 0:
         line = any_lowest_first(rng, line)
     kind = rng.randrange(40)
@@ -827,7 +910,7 @@ def some_trial_line(rng):
     if kind == 1:
         return line[: rng.randrange(len(line))]
     if kind == 2:
-        return hexadecimal([rng.randrange(9)] + list(rng.randbytes(rng.randrange(40))))
+        return hexadecimal([rng.randrange(13)] + list(rng.randbytes(rng.randrange(40))))
     if kind <= 5:
         return any_case(rng, line)
     return line
@@ -839,6 +922,7 @@ def trial_input():
     lines = [
         *trial_recode_edges(),
         *lowest_first_edges(),
+        *below_edges(),
         *check_edges(),
         *check_every_digit(),
         *check_far_off(),
@@ -850,6 +934,7 @@ def trial_input():
         *write_edges(),
         *read_edges(),
         *recode_faults(),
+        *below_faults(),
         *check_faults(),
         *tape_faults(),
         *run_faults(),

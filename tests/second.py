@@ -29,6 +29,8 @@ capitals: every field, then every lent buffer whole. Numbers of more than one by
     06 reader         width 1, calls 2, scalar                              refusal 1, then for each call 01 and the
                                                                             digit, or 0000 for done
     07 search         width 1, number 4                                     refusal 1, weight 1
+    0B recode below   form 1, width 1, places lent 2, mark words lent 1,    as 01
+                      group order's length 1, group order, scalar
     0E write          version 1, characters lent 2, digits                  refusal 1, length 2, the line's buffer
     0F read           places lent 2, the line's characters                  refusal 1, stated number 1, weight 2, top 2,
                                                                             places 2, digits
@@ -37,13 +39,14 @@ A digit is one byte in two's complement, a mark word eight bytes, a tape word tw
 every lent digit is 5A, mark word A5A5A5A5A5A5A5A5, tape word EEEE, multiple DEADBEEF, character of a line 2E. What has
 no stated length runs to the end of the line. A line ends at a line feed; a last line without one counts if not empty.
 
-With 80 added to the call, 81, 82, 83 and 86, the scalar's bytes come lowest first; else they come highest first.
+With 80 added to the call, 81, 82, 83, 86 and 8B, the scalar's bytes come lowest first; else they come highest first.
+The group order's come highest first in either.
 
 FF answers a line that is no such frame: empty, of odd length, with another character, of another call, without a
 part of a fixed field or of the stated scalar, with half a tape word at its end, with anything after a search, or with
 a version that is not 1 or 2. FF
 also answers a line that asks for more than the program has: over 600 digits or places, 12 mark words, 1,100 tape
-words (given or lent), 80 multiples, 80 scalar bytes, 700 reader calls, 3,300 characters of a line (given or lent). So
+words (given or lent), 80 multiples, 80 bytes of a scalar or of a group order, 700 reader calls, 3,300 characters of a line (given or lent). So
 the longest frame is that of a line to read: 3,303 bytes, 6,606 characters, and FF answers every longer line.
 """
 
@@ -199,8 +202,8 @@ def marks_of(digits):
     ]
 
 
-def recode(form, width, scalar, digits, marks, order=HIGHEST_FIRST):
-    """refusal, place, weight, top; digits, marks"""
+def recode(form, width, scalar, digits, marks, order=HIGHEST_FIRST, group=None):
+    """refusal, place, weight, top; digits, marks. Where a group order is given the scalar has to be below it."""
     places = 8 * len(scalar) + 1
     if form not in FORMS:
         refusal = 1
@@ -208,6 +211,10 @@ def recode(form, width, scalar, digits, marks, order=HIGHEST_FIRST):
         refusal = 2
     elif len(scalar) > MOST_BYTES:
         refusal = 3
+    elif group is not None and not (1 <= len(group) <= MOST_BYTES and number(group) > 0):
+        refusal = 19
+    elif group is not None and number(scalar, order) >= number(group):
+        refusal = 20
     elif len(digits) < places:
         refusal = 4
     elif len(marks) < MARK_WORDS:
@@ -531,11 +538,12 @@ class Frame:
         return data
 
 
-def trial_recode(frame):
+def trial_recode(frame, below=False):
     form, width = frame.number(1), frame.number(1)
     digits = [LENT_DIGIT] * frame.number(2, TRIAL_PLACES)
     marks = [LENT_MARK] * frame.number(1, TRIAL_MARKS)
-    (refusal, *fields), digits, marks = recode(form, width, frame.remaining(TRIAL_BYTES), digits, marks, frame.order)
+    group = frame.take(frame.number(1, TRIAL_BYTES)) if below else None
+    (refusal, *fields), digits, marks = recode(form, width, frame.remaining(TRIAL_BYTES), digits, marks, frame.order, group)
     return bytes([refusal]) + big_endian(fields, 2) + big_endian(digits, 1) + big_endian(marks, 8)
 
 
@@ -595,19 +603,21 @@ def trial_read(frame):
     return bytes([refusal, stated]) + big_endian(counts, 2) + big_endian(digits, 1)
 
 
+def trial_below(frame):
+    return trial_recode(frame, below=True)
+
+
 TRIALS = dict(enumerate([trial_recode, trial_check, trial_nonadjacent, trial_tape, trial_run, trial_reader, trial_search], 1))
-TRIALS |= {0x0E: trial_write, 0x0F: trial_read}
-ON_A_SCALAR = [trial_recode, trial_check, trial_nonadjacent, trial_reader]
+TRIALS |= {0x0B: trial_below, 0x0E: trial_write, 0x0F: trial_read}
+ON_A_SCALAR = [trial_recode, trial_check, trial_nonadjacent, trial_reader, trial_below]
 LOWEST = 0x80  # added to the call: the scalar's bytes come lowest first
 
 
 def trial_answer(line):
     """One line of the trial program, its line feed left out."""
     data = bytes_of(line)
-    if data is None or data[0] % LOWEST not in TRIALS:
-        return b"FF"
-    call = TRIALS[data[0] % LOWEST]
-    if data[0] >= LOWEST and call not in ON_A_SCALAR:
+    call = None if data is None else TRIALS.get(data[0] % LOWEST)
+    if call is None or data[0] >= LOWEST and call not in ON_A_SCALAR:
         return b"FF"
     try:
         return written(call(Frame(data[1:], LOWEST_FIRST if data[0] >= LOWEST else HIGHEST_FIRST)))

@@ -1,14 +1,15 @@
--- Rules of refusal: the number and the place of the first rule that applies are one only; a rule is the first where those before it fail; and what is granted or kept.
+-- Rules of refusal: the number and the place of the first rule that applies are one only; a rule is the first where those before it fail; rules put in among others; and what is
+-- granted or kept.
 -- Assumes nothing.
 use mathlib.Core.Path.{_≡_, refl, sym, ap, _∙_}
 use mathlib.Core.Logic.{_≢_, inl, inr}
-use mathlib.Core.Bool.{Bool, true, _&&_}
+use mathlib.Core.Bool.{Bool, true, not, _&&_}
 use mathlib.Core.List.{List, [], _∷_, _++_}
 use Prim.Native.Nat.{ℕ, zero, suc, _<_}
 use native.Mathlib.Omega.{arith}
-use native.Mathlib.Decide.{decLt}
-use lib.Dec.{T, ltb, ltb→lt}
-use Rattle.laws.proofs.Choices.{and-both}
+use native.Mathlib.Decide.{decLt, ℕ-discrete}
+use lib.Dec.{T, eqb}
+use Rattle.laws.proofs.Choices.{and-both, unequal}
 use Rattle.meaning.specs.Refusals.{Rule, plain, lowest, numberOf, Lowest, Applies, Fails, First, granted, kept}
 
 -- ---- one rule
@@ -71,30 +72,59 @@ pub first-none : (xs : List Rule) → Clear xs → First xs 0 0
 first-none [] c = (refl, refl)
 first-none (x ∷ xs) (o, c) = inr (o, first-none xs c)
 
--- ---- rules in rising order, by a test: for a list that is written out, `tt`
-abbrev pub rises : ℕ → List Rule → Bool
-rises b [] = true
-rises b (x ∷ xs) = ltb b (numberOf x) && rises (numberOf x) xs
+pub clear-both : (xs ys : List Rule) → Clear xs → Clear ys → Clear (xs ++ ys)
+clear-both [] ys c d = d
+clear-both (x ∷ xs) ys (o, c) d = (o, clear-both xs ys c d)
 
--- where nothing is refused, no rule applies
-clear-from : (b : ℕ) (xs : List Rule) → T (rises b xs) → (r p : ℕ) → First xs r p → r ≡ 0 → Clear xs
-clear-from b [] t r p f z = tt
-clear-from b (x ∷ xs) t r p (inl (e, a)) z = absurd (omega (arith, ltb→lt b (numberOf x) (and-both (ltb b (numberOf x)) (rises (numberOf x) xs) t .0)))
-clear-from b (x ∷ xs) t r p (inr (o, f)) z = (o, clear-from (numberOf x) xs (and-both (ltb b (numberOf x)) (rises (numberOf x) xs) t .1) r p f z)
+-- ---- the numbers of rules, by a test: for a list that is written out, `tt`
+-- no rule has the number b
+abbrev pub absent : ℕ → List Rule → Bool
+absent b [] = true
+absent b (x ∷ xs) = not (eqb b (numberOf x)) && absent b xs
 
--- and a rule that applies has a number that is not 0
-some-from : (b : ℕ) (xs : List Rule) → T (rises b xs) → (k p : ℕ) → Until xs k p → b < numberAt xs k
-some-from b [] t k p u = absurd u
-some-from b (x ∷ xs) t zero p u = ltb→lt b (numberOf x) (and-both (ltb b (numberOf x)) (rises (numberOf x) xs) t .0)
-some-from b (x ∷ xs) t (suc k) p (o, u) =
-    let (l, r) = and-both (ltb b (numberOf x)) (rises (numberOf x) xs) t in
-    omega (arith, ltb→lt b (numberOf x) l, some-from (numberOf x) xs r k p u)
+-- so the head has another, and no rule of the tail has it
+pub absent-from : (b : ℕ) (x : Rule) (xs : List Rule) → T (absent b (x ∷ xs)) → (b ≢ numberOf x) × T (absent b xs)
+absent-from b x xs t = let (l, r) = and-both (not (eqb b (numberOf x))) (absent b xs) t in (unequal b (numberOf x) l, r)
 
-pub number-some : (xs : List Rule) → T (rises 0 xs) → (k p : ℕ) → Until xs k p → numberAt xs k ≢ 0
-number-some xs t k p u e = omega (arith, some-from 0 xs t k p u)
+-- where no rule has the number 0, a rule that applies has a number that is not 0
+pub number-some : (xs : List Rule) → T (absent 0 xs) → (k p : ℕ) → Until xs k p → numberAt xs k ≢ 0
+number-some [] t k p u e = u
+number-some (x ∷ xs) t zero p u e = absent-from 0 x xs t .0 (sym e)
+number-some (x ∷ xs) t (suc k) p (o, u) e = number-some xs (absent-from 0 x xs t .1) k p u e
 
-pub clear : (xs : List Rule) → T (rises 0 xs) → (r p : ℕ) → First xs r p → r ≡ 0 → Clear xs
-clear xs = clear-from 0 xs
+-- and where nothing is refused, no rule applies
+pub clear : (xs : List Rule) → T (absent 0 xs) → (r p : ℕ) → First xs r p → r ≡ 0 → Clear xs
+clear [] t r p f z = tt
+clear (x ∷ xs) t r p (inl (e, a)) z = absurd (absent-from 0 x xs t .0 (sym z ∙ e))
+clear (x ∷ xs) t r p (inr (o, f)) z = (o, clear xs (absent-from 0 x xs t .1) r p f z)
+
+-- ---- rules put in among others
+-- rules that do not apply may stand before
+first-after : (xs ys : List Rule) (r p : ℕ) → Clear xs → First ys r p → First (xs ++ ys) r p
+first-after [] ys r p c f = f
+first-after (x ∷ xs) ys r p (o, c) f = inr (o, first-after xs ys r p c f)
+
+-- and be left out
+first-left : (xs ys : List Rule) (r p : ℕ) → Clear xs → First (xs ++ ys) r p → First ys r p
+first-left [] ys r p c f = f
+first-left (x ∷ xs) ys r p (o, c) (inl (e, a)) = absurd (fails-no x p o a)
+first-left (x ∷ xs) ys r p (o, c) (inr (n, f)) = first-left xs ys r p c f
+
+pub first-without : (xs more ys : List Rule) (r p : ℕ) → Clear more → First (xs ++ (more ++ ys)) r p → First (xs ++ ys) r p
+first-without [] more ys r p c f = first-left more ys r p c f
+first-without (x ∷ xs) more ys r p c (inl h) = inl h
+first-without (x ∷ xs) more ys r p c (inr (o, f)) = inr (o, first-without xs more ys r p c f)
+
+-- a number, 0 or not, stands for the rules that it is the first of
+pub first-for : (xs more ys : List Rule) (b r p : ℕ) → T (absent 0 more) → (Clear xs → First more b 0) → First (xs ++ (plain b (b ≢ 0) ∷ ys)) r p → First (xs ++ (more ++ ys)) r p
+first-for [] more ys b r p t g (inl (e, (n, q))) = first-kept more ys r p (λ z. n (sym e ∙ z)) (rw (e, q) (g tt))
+first-for [] more ys b r p t g (inr (o, f)) = go (ℕ-discrete b 0)
+  where
+    go : Dec (b ≡ 0) → First (more ++ ys) r p
+    go (yes z) = first-after more ys r p (clear more t b 0 (g tt) z) f
+    go (no n) = absurd (o n)
+first-for (x ∷ xs) more ys b r p t g (inl h) = inl h
+first-for (x ∷ xs) more ys b r p t g (inr (o, f)) = inr (o, first-for xs more ys b r p t (λ c. g (o, c)) f)
 
 -- ---- in a refusal
 pub kept-lent : {A : Type 0} (r : ℕ) (written lent : List A) → r ≢ 0 → kept r written lent ≡ lent

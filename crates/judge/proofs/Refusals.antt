@@ -14,12 +14,12 @@ use Rattle.meaning.specs.Digits.{mostPlaces, weight, top}
 use Rattle.meaning.specs.Refusals.{Rule, lowest, Lowest}
 use Rattle.meaning.specs.Scalars.{Order}
 use Rattle.meaning.specs.Checking.{Crowded, checkRules, nonadjacentRules, Check}
-use Rattle.forms.proofs.Refusals.{Until, numberAt, rises, number-some, first-at, clear, first-none, granted-none, first-kept, first-only}
+use Rattle.forms.proofs.Refusals.{Until, numberAt, absent, number-some, first-at, clear, first-none, granted-none, first-kept, first-only}
 use Rattle.digits.specs.declared.Tally.{Tally}
 use Rattle.digits.specs.Tallies.{told}
 
 -- the rule at index k is the first that applies
-pub refuses : (rules : List Rule) → T (rises 0 rules) → (ds : List ℤ) (k p : ℕ) {v : Tally} → v ≡ record { refusal = numberAt rules k; place = p; weight = 0; top = 0 } → Until rules k p → Check rules ds (told v)
+pub refuses : (rules : List Rule) → T (absent 0 rules) → (ds : List ℤ) (k p : ℕ) {v : Tally} → v ≡ record { refusal = numberAt rules k; place = p; weight = 0; top = 0 } → Until rules k p → Check rules ds (told v)
 refuses rules t ds k p e u =
     let n = number-some rules t k p u in
     subst (λ v. Check rules ds (told v)) (sym e)

@@ -47,6 +47,13 @@ pub or-right : (p q : Bool) → T q → T (p || q)
 or-right true q t = tt
 or-right false q t = t
 
+-- tests that pass and fail together are one
+pub same-tests : (p q : Bool) → (T p → T q) → (T (not p) → T (not q)) → p ≡ q
+same-tests true true f g = refl
+same-tests true false f g = absurd (f tt)
+same-tests false true f g = absurd (g tt)
+same-tests false false f g = refl
+
 -- tests of numbers
 pub equal : (a b : ℕ) → a ≡ b → T (eqb a b)
 equal a b e = subst (λ x. T (eqb a x)) e (eqb-refl a)

@@ -36,6 +36,11 @@ lowest-first : number lowestFirst (1 ∷ 93 ∷ []) ≡ 23809
 unfolding number
 lowest-first = refl
 
+-- bytes of nought at the high end are worth nothing, so that a scalar and a group's order of different lengths compare as numbers
+high-noughts : (number highestFirst (0 ∷ 0 ∷ 5 ∷ []) ≡ 5) × (number lowestFirst (5 ∷ 0 ∷ []) ≡ 5)
+unfolding number
+high-noughts = (refl, refl)
+
 -- 4 is no digit of width 4, and -7 is
 no-half : inSet (largest 4) (pos 4) ≡ false
 unfolding inSet

@@ -1,12 +1,12 @@
--- Recode: the n + 1 digits of a scalar in a form, nine words of marks, the weight and the top.
+-- Recode: the n + 1 digits of a scalar in a form, nine words of marks, the weight and the top; and the same of a scalar that must lie below a group's order.
 -- Assumes nothing.
 use mathlib.Core.Path.{_≡_}
 use mathlib.Core.Logic.{_⊎_, _≢_}
 use mathlib.Core.List.{List, [], _∷_, _++_}
-use Prim.Native.Nat.{ℕ, zero, suc, _+_, _*_, _<_}
+use Prim.Native.Nat.{ℕ, zero, suc, _+_, _*_, _<_, _≤_}
 use lib.IntN.{ℤ}
 use lib.ListN.{length, drop}
-use Rattle.meaning.specs.Scalars.{Order, number, bitCount}
+use Rattle.meaning.specs.Scalars.{Order, highestFirst, number, bitCount, mostBytes}
 use Rattle.meaning.specs.Digits.{leastWidth, mostWidth, nonzero, weight, top, listed, Tally}
 use Rattle.meaning.specs.Forms.{Form, mostForm}
 use Rattle.meaning.specs.Refusals.{Rule, plain, First, longScalar}
@@ -27,16 +27,29 @@ unfoldable pub marksOf : List ℤ → List ℕ
 marksOf ds = listed (λ q. marked 64 (drop (64 * q) ds)) 0 markWords
 
 -- ---- refusals
--- 1: form is not 1..5; 2: width outside 2..8, or not 2 with form 1; 3: scalar over 66 bytes; 4: digit buffer under n + 1 places;
+-- 1: form is not 1..5; 2: width outside 2..8, or not 2 with form 1; 3: scalar over 66 bytes; here a call may have more; 4: digit buffer under n + 1 places;
 -- 5: marks buffer under 9 words
-abbrev pub recodeRules : (form w : ℕ) (s : List ℕ) (places words : ℕ) → List Rule
-recodeRules form w s places words =
+abbrev pub rulesWith : List Rule → (form w : ℕ) (s : List ℕ) (places words : ℕ) → List Rule
+rulesWith more form w s places words =
     plain 1 ((form < 1) ⊎ (mostForm < form))
     ∷ plain 2 (((w < leastWidth) ⊎ (mostWidth < w)) ⊎ ((form ≡ 1) × (w ≢ 2)))
     ∷ longScalar s
-    ∷ plain 4 (places < bitCount s + 1)
-    ∷ plain 5 (words < markWords)
+    ∷ (more ++ (plain 4 (places < bitCount s + 1) ∷ plain 5 (words < markWords) ∷ []))
+
+-- the plain call has none
+abbrev pub recodeRules : (form w : ℕ) (s : List ℕ) (places words : ℕ) → List Rule
+recodeRules form w s places words = rulesWith [] form w s places words
+
+-- the call that takes a group's order, highest byte first whatever the scalar's order of bytes, has two. 19: order empty, worth zero or over 66 bytes; 20: scalar not below the
+-- order, as numbers
+abbrev pub groupRules : Order → (s group : List ℕ) → List Rule
+groupRules o s group =
+    plain 19 (((length group ≡ 0) ⊎ (number highestFirst group ≡ 0)) ⊎ (mostBytes < length group))
+    ∷ plain 20 (number highestFirst group ≤ number o s)
     ∷ []
+
+abbrev pub belowRules : (form w : ℕ) (o : Order) (s group : List ℕ) (places words : ℕ) → List Rule
+belowRules form w o s group places words = rulesWith (groupRules o s group) form w s places words
 
 -- ---- what the call returns and leaves
 -- on acceptance: the digits of the form and then what stood past them, the marks of those digits likewise, their weight and their top
@@ -55,8 +68,16 @@ pub record Unrecoded (digits₀ : List ℤ) (marks₀ : List ℕ) (a : Tally) (d
   pub weight-is : a .weight ≡ 0
   pub top-is : a .top ≡ 0
 
--- the call, and the two buffers afterwards
-pub record Recode (form w : ℕ) (o : Order) (s : List ℕ) (digits₀ : List ℤ) (marks₀ : List ℕ) (a : Tally) (digits : List ℤ) (marks : List ℕ) : Type 0 where
-  pub first : First (recodeRules form w s (length digits₀) (length marks₀)) (a .refusal) (a .place)
+-- a call by these rules, and the two buffers afterwards
+pub record RecodeBy (rules : List Rule) (form w : ℕ) (o : Order) (s : List ℕ) (digits₀ : List ℤ) (marks₀ : List ℕ) (a : Tally) (digits : List ℤ) (marks : List ℕ) : Type 0 where
+  pub first : First rules (a .refusal) (a .place)
   pub accepted : a .refusal ≡ 0 → Recoded form w o s digits₀ marks₀ a digits marks
   pub refused : a .refusal ≢ 0 → Unrecoded digits₀ marks₀ a digits marks
+
+-- the plain call
+abbrev pub Recode : (form w : ℕ) (o : Order) (s : List ℕ) (digits₀ : List ℤ) (marks₀ : List ℕ) (a : Tally) (digits : List ℤ) (marks : List ℕ) → Type 0
+Recode form w o s digits₀ marks₀ a digits marks = RecodeBy (recodeRules form w s (length digits₀) (length marks₀)) form w o s digits₀ marks₀ a digits marks
+
+-- and the call that takes a group's order: the plain one with two rules more
+abbrev pub RecodeBelow : (form w : ℕ) (o : Order) (s group : List ℕ) (digits₀ : List ℤ) (marks₀ : List ℕ) (a : Tally) (digits : List ℤ) (marks : List ℕ) → Type 0
+RecodeBelow form w o s group digits₀ marks₀ a digits marks = RecodeBy (belowRules form w o s group (length digits₀) (length marks₀)) form w o s digits₀ marks₀ a digits marks

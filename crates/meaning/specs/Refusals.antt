@@ -1,4 +1,4 @@
--- Refusals: a call tries its own rules in rising order and gives the number and the place of the first that applies; 0 is acceptance.
+-- Refusals: a call tries its own rules in the order in which they are listed and gives the number and the place of the first that applies; 0 is acceptance.
 -- The rules of each call stand beside what the call returns. 6 was struck and is not used again: n + 1 places always suffice. Assumes nothing.
 use mathlib.Core.Path.{_≡_}
 use mathlib.Core.Logic.{_⊎_}

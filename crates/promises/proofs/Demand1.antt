@@ -1,6 +1,6 @@
 -- Demand 1. The calls take every input. A refusal gives the number that the document lists, in the order listed there, and no lent buffer differs afterwards.
 -- From the calls' promises alone, which have no condition. The checks, the search and the making of a reader are lent nothing to write. Assumes nothing.
-use mathlib.Core.Path.{_≡_, subst, _∙_}
+use mathlib.Core.Path.{_≡_, refl, _∙_}
 use mathlib.Core.Logic.{_≢_, inl, inr}
 use mathlib.Core.List.{List}
 use Prim.Native.Nat.{ℕ, _+_}
@@ -11,8 +11,8 @@ use lib.ListN.{length}
 use Rattle.meaning.specs.Scalars.{Order, number, bitCount}
 use Rattle.meaning.specs.Digits.{worth, Tally}
 use Rattle.meaning.specs.Forms.{Form}
-use Rattle.meaning.specs.Refusals.{Rule, First}
-use Rattle.meaning.specs.Recoding.{markWords, recodeRules}
+use Rattle.meaning.specs.Refusals.{First}
+use Rattle.meaning.specs.Recoding.{markWords, recodeRules, belowRules}
 use Rattle.meaning.specs.Checking.{checkRules, nonadjacentRules}
 use Rattle.meaning.specs.Taping.{tapeRules}
 use Rattle.meaning.specs.Running.{runRules, Run, Ran}
@@ -24,9 +24,9 @@ use Rattle.forms.proofs.Refusals.{kept-lent}
 use Rattle.forms.proofs.Forms.{form-exists, form-length, form-worth}
 use Rattle.scalar.proofs.Bytes.{Bytes, number-lt}
 use Rattle.recoder.specs.Judged.{Allowed}
-use Rattle.promises.proofs.Exactly.{Given, Exactly, first-given, exactly}
-use Rattle.promises.proofs.InOrder.{InOrder, in-order}
+use Rattle.promises.proofs.Exactly.{Exactly, exactly}
 use Rattle.promises.proofs.Recode as Recoding
+use Rattle.promises.proofs.Below as Below
 use Rattle.promises.proofs.Tape as Taping
 use Rattle.promises.proofs.Check as Checking
 
@@ -34,6 +34,10 @@ use Rattle.promises.proofs.Check as Checking
 pub recode-exactly : (form w : ℕ) (order : Order) (s : List ℕ) (digits₀ : List ℤ) (marks₀ : List ℕ) (o : Recoding.Outcome) → Recoding.Keeps form w order s digits₀ marks₀ o
     → Exactly (recodeRules form w s (length digits₀) (length marks₀)) (o .tally .refusal) (o .tally .place)
 recode-exactly form w order s digits₀ marks₀ o K = exactly (recodeRules form w s (length digits₀) (length marks₀)) tt _ _ (K .first)
+
+pub below-exactly : (form w : ℕ) (order : Order) (s group : List ℕ) (digits₀ : List ℤ) (marks₀ : List ℕ) (o : Recoding.Outcome) → Below.Keeps form w order s group digits₀ marks₀ o
+    → Exactly (belowRules form w order s group (length digits₀) (length marks₀)) (o .tally .refusal) (o .tally .place)
+below-exactly form w order s group digits₀ marks₀ o K = exactly (belowRules form w order s group (length digits₀) (length marks₀)) tt _ _ (K .first)
 
 pub check-exactly : (w : ℕ) (order : Order) (s : List ℕ) (ds : List ℤ) (v : Tally) → Checking.Keeps (checkRules w order s ds) ds v → Exactly (checkRules w order s ds) (v .refusal) (v .place)
 check-exactly w order s ds v K = exactly (checkRules w order s ds) tt _ _ (K .first)
@@ -58,8 +62,8 @@ pub write-exactly : (v : Version) (ds : List ℤ) (out₀ : List ℕ) (a : Frame
 write-exactly v ds out₀ a out K = exactly (writeRules v ds (length out₀)) tt _ _ (K .first)
 
 -- reading tries 16 first, and 4 last
-pub read-exactly : (line : List ℕ) (digits₀ : List ℤ) (a : Parsed) (digits : List ℤ) → Read line digits₀ a digits → InOrder (readRules line (length digits₀)) (a .refusal) 0
-read-exactly line digits₀ a digits K = in-order (readRules line (length digits₀)) tt _ _ (K .first)
+pub read-exactly : (line : List ℕ) (digits₀ : List ℤ) (a : Parsed) (digits : List ℤ) → Read line digits₀ a digits → Exactly (readRules line (length digits₀)) (a .refusal) 0
+read-exactly line digits₀ a digits K = exactly (readRules line (length digits₀)) tt _ _ (K .first)
 
 -- the line: the program tries 16 first, and then recode's rules
 pub record LineExactly (line : List ℕ) (r : ℕ) : Type 0 where
@@ -68,29 +72,18 @@ pub record LineExactly (line : List ℕ) (r : ℕ) : Type 0 where
   pub others : (T (malformed line) → ⊥) → let s = scalarOf line in Exactly (recodeRules (formOf line) (widthOf line) s (bitCount s + 1) markWords) r 0
 
 pub line-exactly : (v : Version) (line out : List ℕ) (A : Answer v line out) → LineExactly line (A .refusal)
-line-exactly v line out A = go (A .first)
+line-exactly v line out A =
+    let E = exactly (lineRules line) tt (A .refusal) 0 (A .first) in
+    record {
+      malformed-first = λ h. E .gives 0 0 (h, refl) .0;
+      malformed-only = λ e. E .only 0 (λ z. omega arith) e .0;
+      others = λ n. others n (A .first);
+    }
   where
-    s : List ℕ
-    s = scalarOf line
-
-    rules : List Rule
-    rules = recodeRules (formOf line) (widthOf line) s (bitCount s + 1) markWords
-
-    none-16 : {p : ℕ} → Given rules 16 p → ⊥
-    none-16 (inl (e, _)) = omega arith
-    none-16 (inr (inl (e, _))) = omega arith
-    none-16 (inr (inr (inl (e, _)))) = omega arith
-    none-16 (inr (inr (inr (inl (e, _))))) = omega arith
-    none-16 (inr (inr (inr (inr (inl (e, _)))))) = omega arith
-
-    go : First (lineRules line) (A .refusal) 0 → LineExactly line (A .refusal)
-    go (inl (e, (h, _))) = record { malformed-first = λ _. e; malformed-only = λ _. h; others = λ n. absurd (n h) }
-    go (inr (n, f)) =
-        record {
-          malformed-first = λ h. absurd (n h);
-          malformed-only = λ e. absurd (none-16 (subst (λ r. Given rules r 0) e (first-given rules (A .refusal) 0 f (λ z. omega arith))));
-          others = λ _. exactly rules tt (A .refusal) 0 f;
-        }
+    others : (T (malformed line) → ⊥) → First (lineRules line) (A .refusal) 0
+        → let s = scalarOf line in Exactly (recodeRules (formOf line) (widthOf line) s (bitCount s + 1) markWords) (A .refusal) 0
+    others n (inl (e, (h, _))) = absurd (n h)
+    others n (inr (_, f)) = exactly _ tt (A .refusal) 0 f
 
 -- ---- n + 1 places always suffice: in every form, at every width that it has, each scalar has a string of so many, which is worth it, and no digit is needed above them
 pub places-suffice : (form w : ℕ) → Allowed form w → (order : Order) (s : List ℕ) → Bytes s → (ds : List ℤ) × Form form w (number order s) (bitCount s) ds × (length ds ≡ bitCount s + 1) × (worth ds ≡ pos (number order s))
@@ -103,6 +96,10 @@ places-suffice form w a order s bytes =
 pub recode-kept : (form w : ℕ) (order : Order) (s : List ℕ) (digits₀ : List ℤ) (marks₀ : List ℕ) (o : Recoding.Outcome) → Recoding.Keeps form w order s digits₀ marks₀ o → o .tally .refusal ≢ 0
     → (o .digits ≡ digits₀) × (o .marks ≡ marks₀)
 recode-kept form w order s digits₀ marks₀ o K n = (K .refused n .digits-are, K .refused n .marks-are)
+
+pub below-kept : (form w : ℕ) (order : Order) (s group : List ℕ) (digits₀ : List ℤ) (marks₀ : List ℕ) (o : Recoding.Outcome) → Below.Keeps form w order s group digits₀ marks₀ o → o .tally .refusal ≢ 0
+    → (o .digits ≡ digits₀) × (o .marks ≡ marks₀)
+below-kept form w order s group digits₀ marks₀ o K n = (K .refused n .digits-are, K .refused n .marks-are)
 
 pub tape-kept : (w : ℕ) (ds : List ℤ) (words₀ : List ℕ) (o : Taping.Outcome) → Taping.Keeps w ds words₀ o → o .taped .refusal ≢ 0 → o .words ≡ words₀
 tape-kept w ds words₀ o K n = K .words-are ∙ kept-lent (o .taped .refusal) _ words₀ n

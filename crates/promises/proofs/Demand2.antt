@@ -1,7 +1,7 @@
 -- Demand 2. Each form is digit for digit the one that its paper defines, from scalar to digits; the check says yes for exactly the strings that are legal and worth the
 -- scalar; and running the tape of such a string gives the scalar times the base, as a residue of the given modulus. From the calls' promises alone. Assumes nothing.
 use mathlib.Core.Path.{_≡_, sym, ap, subst, _∙_}
-use mathlib.Core.List.{List}
+use mathlib.Core.List.{List, []}
 use Prim.Native.Nat.{ℕ, _+_, _^_, _<_, _≤_}
 use lib.IntN.{ℤ, pos, _*ℤ_}
 use lib.ListN.{length, take}
@@ -16,6 +16,8 @@ use Rattle.scalar.proofs.Bytes.{Bytes, number-lt}
 use Rattle.run.proofs.Together.{together}
 use Rattle.promises.proofs.Recode as Recoding
 use Rattle.promises.proofs.Recode.{accepted-width}
+use Rattle.promises.proofs.Below as Below
+use Rattle.promises.proofs.Below.{below-plain}
 use Rattle.promises.proofs.Tape as Taping
 use Rattle.promises.proofs.Check as Checking
 
@@ -25,7 +27,7 @@ module _ {form w : ℕ} {order : Order} {s : List ℕ} {digits₀ : List ℤ} {m
   small = number-lt order s bytes
 
   two : 2 ≤ w
-  two = accepted-width form w s (length digits₀) (length marks₀) (o .tally .place) (K .first) z
+  two = accepted-width [] form w s (length digits₀) (length marks₀) (o .tally .place) (K .first) z
 
   -- the n + 1 digits of an accepted recode are the string that its promise speaks of
   pub recoded-string : take (bitCount s + 1) (o .digits) ≡ K .accepted z .string
@@ -40,6 +42,15 @@ module _ {form w : ℕ} {order : Order} {s : List ℕ} {digits₀ : List ℤ} {m
   -- and worth the scalar
   pub recoded-worth : worth (take (bitCount s + 1) (o .digits)) ≡ pos (number order s)
   recoded-worth = form-worth w (number order s) (bitCount s) two small form (take (bitCount s + 1) (o .digits)) recoded-form
+
+-- so of an accepted call that takes a group's order
+module _ {form w : ℕ} {order : Order} {s : List ℕ} (group : List ℕ) {digits₀ : List ℤ} {marks₀ : List ℕ} (o : Recoding.Outcome) (K : Below.Keeps form w order s group digits₀ marks₀ o)
+    (z : o .tally .refusal ≡ 0) (bytes : Bytes s) where
+  pub below-form : Form form w (number order s) (bitCount s) (take (bitCount s + 1) (o .digits))
+  below-form = recoded-form o (below-plain form w order s group digits₀ marks₀ o K z) z bytes
+
+  pub below-worth : worth (take (bitCount s + 1) (o .digits)) ≡ pos (number order s)
+  below-worth = recoded-worth o (below-plain form w order s group digits₀ marks₀ o K z) z bytes
 
 -- the check says yes for exactly the legal strings that are worth the scalar
 pub check-says : (w : ℕ) (order : Order) (s : List ℕ) (ds : List ℤ) (v : Tally) → Checking.Keeps (checkRules w order s ds) ds v → (v .refusal ≡ 0 → Checking.Legal w order s ds) × (Checking.Legal w order s ds → v .refusal ≡ 0)

@@ -2,7 +2,7 @@
 -- nonzero digits; with n bits lent there are at most (n + w) / w of them, rounded down; the tape holds one addition or subtraction fewer than that number, none for zero, and
 -- one doubling for each place under the highest nonzero digit; and the run does those steps and reports them. From the calls' promises alone. Assumes nothing.
 use mathlib.Core.Path.{_≡_, ap, _∙_}
-use mathlib.Core.List.{List}
+use mathlib.Core.List.{List, []}
 use Prim.Native.Nat.{ℕ, _+_, _-_, _/_, _^_, _<_, _≤_}
 use native.Mathlib.Omega.{arith}
 use lib.Dec.{T}
@@ -21,6 +21,8 @@ use Rattle.scalar.proofs.Bytes.{Bytes, number-lt}
 use Rattle.run.proofs.Together.{together}
 use Rattle.promises.proofs.Recode as Recoding
 use Rattle.promises.proofs.Recode.{accepted-width}
+use Rattle.promises.proofs.Below as Below
+use Rattle.promises.proofs.Below.{below-plain}
 use Rattle.promises.proofs.Tape as Taping
 
 module _ {form w : ℕ} {order : Order} {s : List ℕ} {digits₀ : List ℤ} {marks₀ : List ℕ} (o : Recoding.Outcome) (K : Recoding.Keeps form w order s digits₀ marks₀ o)
@@ -29,7 +31,7 @@ module _ {form w : ℕ} {order : Order} {s : List ℕ} {digits₀ : List ℤ} {m
   small = number-lt order s bytes
 
   two : 2 ≤ w
-  two = accepted-width form w s (length digits₀) (length marks₀) (o .tally .place) (K .first) z
+  two = accepted-width [] form w s (length digits₀) (length marks₀) (o .tally .place) (K .first) z
 
   -- the weight that recode reports is the least of any string of D_w digits, whatever its length, that is worth the scalar
   pub recoded-least : (es : List ℤ) → T (allIn (largest w) es) → worth es ≡ pos (number order s) → o .tally .weight ≤ weight es
@@ -42,6 +44,15 @@ module _ {form w : ℕ} {order : Order} {s : List ℕ} {digits₀ : List ℤ} {m
   recoded-bound =
       let A = K .accepted z in
       omega (arith, A .weight-is, form-bound w (number order s) (bitCount s) two small form (A .string) (A .formed) light)
+
+-- so of an accepted call that takes a group's order
+module _ {form w : ℕ} {order : Order} {s : List ℕ} (group : List ℕ) {digits₀ : List ℤ} {marks₀ : List ℕ} (o : Recoding.Outcome) (K : Below.Keeps form w order s group digits₀ marks₀ o)
+    (z : o .tally .refusal ≡ 0) (bytes : Bytes s) (light : 2 ≤ form) where
+  pub below-least : (es : List ℤ) → T (allIn (largest w) es) → worth es ≡ pos (number order s) → o .tally .weight ≤ weight es
+  below-least = recoded-least o (below-plain form w order s group digits₀ marks₀ o K z) z bytes light
+
+  pub below-bound : o .tally .weight ≤ (bitCount s + w) / w
+  below-bound = recoded-bound o (below-plain form w order s group digits₀ marks₀ o K z) z bytes light
 
 module _ {w : ℕ} {ds : List ℤ} {words₀ : List ℕ} (t : Taping.Outcome) (K : Taping.Keeps w ds words₀ t) (z : t .taped .refusal ≡ 0) where
   -- what its tape is

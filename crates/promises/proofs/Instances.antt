@@ -12,11 +12,11 @@ use lib.IntN.{ℤ, pos, _*ℤ_, ℤ-discrete}
 use lib.ListN.{length, getD, drop, List·getD-eq-default}
 use Rattle.laws.proofs.Choices.{not-below}
 use Rattle.laws.proofs.Division.{floor}
-use Rattle.meaning.specs.Scalars.{Order, number, bitCount}
+use Rattle.meaning.specs.Scalars.{Order, highestFirst, number, bitCount}
 use Rattle.meaning.specs.Digits.{leastWidth, mostWidth, largest, entries, inSet, worth, weight, top, mostPlaces, Tally}
 use Rattle.meaning.specs.Forms.{mostForm}
 use Rattle.meaning.specs.Refusals.{Rule, plain, lowest, numberOf, Lowest, Applies, Fails, First, granted, kept, badWidth}
-use Rattle.meaning.specs.Recoding.{markWords, marksOf, recodeRules}
+use Rattle.meaning.specs.Recoding.{markWords, marksOf, rulesWith, recodeRules, groupRules, belowRules}
 use Rattle.meaning.specs.Checking.{BadDigit, badDigit, Crowded, checkRules, nonadjacentRules}
 use Rattle.meaning.specs.Words.{codeOf, entryOf}
 use Rattle.meaning.specs.Walks.{tapeValue, doublings, additions, IsLoad, Good}
@@ -25,10 +25,12 @@ use Rattle.meaning.specs.Taping.{tapeOf, tapeRules}
 use Rattle.meaning.specs.Running.{BadWord, multiplesOf, runRules, Run, Ran}
 use Rattle.meaning.specs.Hexadecimal.{bytesOf}
 use Rattle.meaning.specs.Frames.{Version, lineOf, writeRules, Framed, Write, weightIn, topIn, placesIn, digitsIn, stated, unreadable, unfit, readRules, Parsed, Read}
-use Rattle.forms.proofs.Refusals.{clear}
+use Rattle.forms.proofs.Refusals.{clear, first-only}
 use Rattle.forms.proofs.Forms.{form-exists}
 use Rattle.scalar.proofs.Bytes.{Bytes, number-lt}
 use Rattle.promises.proofs.Recode as Recoding
+use Rattle.promises.proofs.Below as Below
+use Rattle.promises.proofs.Below.{below-fine, without-group}
 use Rattle.promises.proofs.Tape as Taping
 use Rattle.promises.proofs.Check as Checking
 
@@ -127,27 +129,25 @@ bad? m ds = among (BadDigit m ds) one (length ds) (λ p b. b .within)
         go (yes h) = yes (record { within = h .0; bad = h .1 })
         go (no n) = no (λ b. n (b .within, b .bad))
 
--- ---- recode, of a scalar of bytes
-recode-decided : (form w : ℕ) (order : Order) (s : List ℕ) (places words : ℕ) → AllDecided (recodeRules form w s places words)
-recode-decided form w order s places words = (
+-- ---- recode, of a scalar of bytes, with whichever other rules
+decided-before : (xs ys : List Rule) → AllDecided xs → AllDecided ys → AllDecided (xs ++ ys)
+decided-before [] ys a b = b
+decided-before (x ∷ xs) ys (d, a) b = (d, λ n. decided-before xs ys (a n) b)
+
+recode-decided : (more : List Rule) → AllDecided more → (form w : ℕ) (s : List ℕ) (places words : ℕ) → AllDecided (rulesWith more form w s places words)
+recode-decided more d form w s places words = (
   by (or? (decLt form 1) (decLt mostForm form)),
   λ _. (
     by (or? (or? (decLt w leastWidth) (decLt mostWidth w)) (and? (ℕ-discrete form 1) (not? (ℕ-discrete w 2)))),
     λ _. (
       by (decLt 66 (length s)),
-      λ _. (
-        by (decLt places (bitCount s + 1)),
-        λ _. (
-          by (decLt words markWords),
-          λ _. tt,
-        ),
-      ),
+      λ _. decided-before more _ d (by (decLt places (bitCount s + 1)), λ _. (by (decLt words markWords), λ _. tt)),
     ),
   ),
 )
 
 pub recode-kept-by : (form w : ℕ) (order : Order) (s : List ℕ) → Bytes s → (digits₀ : List ℤ) (marks₀ : List ℕ) → (o : Recoding.Outcome) × Recoding.Keeps form w order s digits₀ marks₀ o
-recode-kept-by form w order s bytes digits₀ marks₀ = let (r, p, f) = first-exists rules (recode-decided form w order s (length digits₀) (length marks₀)) in go r p f
+recode-kept-by form w order s bytes digits₀ marks₀ = let (r, p, f) = first-exists rules (recode-decided [] tt form w s (length digits₀) (length marks₀)) in go r p f
   where
     rules : List Rule
     rules = recodeRules form w s (length digits₀) (length marks₀)
@@ -164,6 +164,28 @@ recode-kept-by form w order s bytes digits₀ marks₀ = let (r, p, f) = first-e
           },
         )
     go (suc r) p f = (
+      record { tally = record { refusal = suc r; place = p; weight = 0; top = 0 }; digits = digits₀; marks = marks₀ },
+      record { first = f; accepted = λ z. absurd (omega arith); refused = λ _. record { digits-are = refl; marks-are = refl; weight-is = refl; top-is = refl } },
+    )
+
+-- ---- recode under a group's order: what the plain call leaves, where it is accepted
+group-decided : (order : Order) (s group : List ℕ) → AllDecided (groupRules order s group)
+group-decided order s group =
+    (by (or? (or? (ℕ-discrete (length group) 0) (ℕ-discrete (number highestFirst group) 0)) (decLt 66 (length group))), λ _. (by (decLe (number highestFirst group) (number order s)), λ _. tt))
+
+pub below-kept-by : (form w : ℕ) (order : Order) (s group : List ℕ) → Bytes s → (digits₀ : List ℤ) (marks₀ : List ℕ) → (o : Recoding.Outcome) × Below.Keeps form w order s group digits₀ marks₀ o
+below-kept-by form w order s group bytes digits₀ marks₀ =
+    let (r, p, f) = first-exists rules (recode-decided (groupRules order s group) (group-decided order s group) form w s (length digits₀) (length marks₀)) in
+    go r p f (recode-kept-by form w order s bytes digits₀ marks₀)
+  where
+    rules : List Rule
+    rules = belowRules form w order s group (length digits₀) (length marks₀)
+
+    go : (r p : ℕ) → First rules r p → (o : Recoding.Outcome) × Recoding.Keeps form w order s digits₀ marks₀ o → (o : Recoding.Outcome) × Below.Keeps form w order s group digits₀ marks₀ o
+    go zero p f (o, K) =
+        let (e, q) = first-only (recodeRules form w s (length digits₀) (length marks₀)) (K .first) (without-group form w order s group (length digits₀) (length marks₀) (below-fine form w order s group (length digits₀) (length marks₀) f refl) f) in
+        (o, record { first = rw (e, q) f; accepted = K .accepted; refused = K .refused })
+    go (suc r) p f _ = (
       record { tally = record { refusal = suc r; place = p; weight = 0; top = 0 }; digits = digits₀; marks = marks₀ },
       record { first = f; accepted = λ z. absurd (omega arith); refused = λ _. record { digits-are = refl; marks-are = refl; weight-is = refl; top-is = refl } },
     )

@@ -139,7 +139,7 @@ pub answered : (f w : ℕ) (order : Order) (s : List ℕ) (ds : List ℤ) → Al
 answered f w order s ds a l small F digits₀ marks₀ p q o K =
     let want : Outcome = record { tally = record { refusal = 0; place = 0; weight = weight ds; top = top ds }; digits = ds ++ drop (bitCount s + 1) digits₀; marks = marksOf ds ++ drop markWords marks₀ } in
     let W : Keeps f w order s digits₀ marks₀ want = record {
-      first = first-none (recodeRules f w s (length digits₀) (length marks₀)) (admits f w s (length digits₀) (length marks₀) a l p q);
+      first = first-none (recodeRules f w s (length digits₀) (length marks₀)) (admits f w s (length digits₀) (length marks₀) a [] tt l p q);
       accepted = λ e. record { string = ds; formed = F; digits-are = refl; marks-are = refl; weight-is = refl; top-is = refl };
       refused = λ n. absurd (n refl);
     } in

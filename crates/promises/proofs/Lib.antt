@@ -1,7 +1,7 @@
 -- Theorems about the calls' promises alone.
 pub mod Exactly
-pub mod InOrder
 pub mod Recode
+pub mod Below
 pub mod Known
 pub mod Slips
 pub mod Tape

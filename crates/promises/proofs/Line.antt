@@ -36,7 +36,7 @@ module _ (v : Version) (line : List ℕ) where
   -- an accepted line has a width of at least 2
   two : {r : ℕ} → First (lineRules line) r 0 → r ≡ 0 → 2 ≤ widthOf line
   two (inl (e, h)) z = absurd (omega arith)
-  two (inr (_, f)) z = accepted-width (formOf line) (widthOf line) (scalarOf line) (bitCount (scalarOf line) + 1) markWords 0 f z
+  two (inr (_, f)) z = accepted-width [] (formOf line) (widthOf line) (scalarOf line) (bitCount (scalarOf line) + 1) markWords 0 f z
 
   pub answer-determined : (a b : List ℕ) → Answer v line a → Answer v line b → a ≡ b
   answer-determined a b A B = go (ℕ-discrete (A .refusal) 0)

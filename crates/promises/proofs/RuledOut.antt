@@ -1,10 +1,10 @@
 -- Calls that cannot keep their promise: refusing everything, one fixed string for all scalars, not writing at all, writing on a refusal, two refusals in the other
--- order, invented step counts, a cost without its doubling, a verdict that does not depend on the scalar, places read in any order, a weight left unread. Each is a theorem: a call with that behaviour that kept its promise at every input would give a
+-- order, a scalar compared with a group's order in one word or by length alone, invented step counts, a cost without its doubling, a verdict that does not depend on the scalar, places read in any order, a weight left unread. Each is a theorem: a call with that behaviour that kept its promise at every input would give a
 -- contradiction. Assumes nothing.
 use mathlib.Core.Path.{_≡_, refl, sym, ap, _∙_}
 use mathlib.Core.Logic.{_≢_, _⊎_, inl, inr, ⊎-elim}
 use mathlib.Core.List.{List, [], _∷_, _++_}
-use Prim.Native.Nat.{ℕ, zero, suc, _+_, _<_}
+use Prim.Native.Nat.{ℕ, zero, suc, _+_, _%_, _^_, _≤_, _<_}
 use native.Mathlib.Omega.{arith}
 use lib.Dec.{lit<, lit≤}
 use lib.IntN.{ℤ, pos, negsuc, natAbs}
@@ -13,7 +13,7 @@ use Rattle.meaning.specs.Scalars.{Order, highestFirst, number, bitCount}
 use Rattle.meaning.specs.Digits.{worth, weight, top, nonzero, inSet, allIn, listed, Tally, Apart}
 use Rattle.meaning.specs.Refusals.{Rule, First}
 use Rattle.meaning.specs.Forms.{asked, Has}
-use Rattle.meaning.specs.Recoding.{recodeRules}
+use Rattle.meaning.specs.Recoding.{recodeRules, groupRules, belowRules}
 use Rattle.meaning.specs.Checking.{checkRules, nonadjacentRules}
 use Rattle.meaning.specs.Walks.{doublings, additions}
 use Rattle.meaning.specs.Taping.{Taped}
@@ -27,16 +27,17 @@ use Rattle.forms.proofs.Refusals.{first-only, first-at, first-none, kept-lent, 
 use Rattle.forms.proofs.Wnaf.{wnaf-is}
 use Rattle.scalar.proofs.Bytes.{Bytes, number-lt}
 use Rattle.width.proofs.Widths.{width-fine}
-use Rattle.recoder.proofs.Refusals.{admits}
+use Rattle.recoder.proofs.Refusals.{is-form, is-width, admits}
 use Rattle.promises.proofs.Recode as Recoding
 use Rattle.promises.proofs.Recode.{recode-determined}
+use Rattle.promises.proofs.Below as Below
 use Rattle.promises.proofs.Tape as Taping
 use Rattle.promises.proofs.Check as Checking
 use Rattle.promises.proofs.Check.{Legal, check-yes, check-yes-only, nonadjacent-yes-only}
 use Rattle.promises.proofs.Known.{Answered, allowed, answered, Written, taped, ranTo, ran, eleventh, twelfth}
 use Rattle.promises.proofs.Cost.{run-costs}
 use Rattle.promises.proofs.Demand3.{taped-additions, taped-doublings}
-use Rattle.promises.proofs.Instances.{recode-kept-by, check-kept-by, nonadjacent-kept-by, tape-kept-by, run-kept-by, write-kept-by, read-kept-by}
+use Rattle.promises.proofs.Instances.{recode-kept-by, below-kept-by, check-kept-by, nonadjacent-kept-by, tape-kept-by, run-kept-by, write-kept-by, read-kept-by}
 
 -- ---- recode
 -- an outcome for every input, a scalar of bytes among it, which keeps the promise
@@ -135,6 +136,61 @@ module _ (c : Recoder) where
       let e = first-only (recodeRules 2 9 s 0 0) (K .first) (first-at (recodeRules 2 9 s 0 0) 1 0 (⊎-elim (λ l. omega arith) (λ l. omega arith), (inl (inr (lit< tt)), refl))) .0 in
       let z : _≡_ {A = ℕ} 3 2 = sym (r 2 9 highestFirst s (zero-bytes 67) [] [] (lit< tt)) ∙ e in
       omega arith
+
+-- ---- recode under a group's order
+pub record Bounded : Type 0 where
+  pub call : (form w : ℕ) (order : Order) (s group : List ℕ) → Bytes s → (digits₀ : List ℤ) (marks₀ : List ℕ) → Recoding.Outcome
+  pub keeps : (form w : ℕ) (order : Order) (s group : List ℕ) (b : Bytes s) (digits₀ : List ℤ) (marks₀ : List ℕ) → Below.Keeps form w order s group digits₀ marks₀ (call form w order s group b digits₀ marks₀)
+
+-- there is one
+pub bounded : Bounded
+bounded = record { call = λ form w order s group b digits₀ marks₀. below-kept-by form w order s group b digits₀ marks₀ .0; keeps = λ form w order s group b digits₀ marks₀. below-kept-by form w order s group b digits₀ marks₀ .1 }
+
+-- a good order: some bytes, not too many, worth some number
+good-order : (group : List ℕ) (N : ℕ) → number highestFirst group ≡ suc N → 0 < length group → length group < 67 → ((length group ≡ 0) ⊎ (number highestFirst group ≡ 0)) ⊎ (66 < length group) → ⊥
+good-order group N e l m = ⊎-elim (⊎-elim (λ z. omega arith) (λ z. omega arith)) (λ h. omega arith)
+
+-- one before noughts, as many as follow the highest byte
+one-first : (n : ℕ) → Bytes (1 ∷ replicate n 0)
+one-first n zero = lit< tt
+one-first n (suc i) = zero-bytes n i
+
+module _ (c : Bounded) where
+  -- a scalar that is not under a good order is refused with 20, whatever is lent
+  under-refused : (s group : List ℕ) (b : Bytes s) → length s < 67 → (((length group ≡ 0) ⊎ (number highestFirst group ≡ 0)) ⊎ (66 < length group) → ⊥) → number highestFirst group ≤ number highestFirst s
+      → c .call 2 2 highestFirst s group b [] [] .tally .refusal ≡ 20
+  under-refused s group b l good h =
+      let A = allowed 2 2 tt in
+      first-only (belowRules 2 2 highestFirst s group 0 0) (c .keeps 2 2 highestFirst s group b [] [] .first)
+      (first-at (belowRules 2 2 highestFirst s group 0 0) 4 0 (is-form 2 2 s 0 0 A, (is-width 2 2 s 0 0 A, ((λ m. omega arith), (good, (h, refl)))))) .0
+
+  -- taking the order itself
+  pub below-not-itself : ((form w : ℕ) (order : Order) (s group : List ℕ) (b : Bytes s) (digits₀ : List ℤ) (marks₀ : List ℕ) → number order s ≡ number highestFirst group → c .call form w order s group b digits₀ marks₀ .tally .refusal ≢ 20) → ⊥
+  unfolding number
+  below-not-itself r = r 2 2 highestFirst (1 ∷ []) (1 ∷ []) (one-byte 1 (lit< tt)) [] [] refl (under-refused (1 ∷ []) (1 ∷ []) (one-byte 1 (lit< tt)) (lit< tt) (good-order (1 ∷ []) 0 refl (lit< tt) (lit< tt)) (lit≤ tt))
+
+  -- comparing what is left of the two numbers in a word of 64 bits
+  pub below-not-wrapped : ((form w : ℕ) (order : Order) (s group : List ℕ) (b : Bytes s) (digits₀ : List ℤ) (marks₀ : List ℕ) → number order s % 2 ^ 64 < number highestFirst group % 2 ^ 64 → c .call form w order s group b digits₀ marks₀ .tally .refusal ≢ 20) → ⊥
+  unfolding number
+  below-not-wrapped r =
+      let s : List ℕ = 1 ∷ replicate 8 0 in
+      r 2 2 highestFirst s (1 ∷ []) (one-first 8) [] [] (lit< tt) (under-refused s (1 ∷ []) (one-first 8) (lit< tt) (good-order (1 ∷ []) 0 refl (lit< tt) (lit< tt)) (lit≤ tt))
+
+  -- comparing lengths alone: a shorter scalar need not lie under the order
+  pub below-not-shorter : ((form w : ℕ) (order : Order) (s group : List ℕ) (b : Bytes s) (digits₀ : List ℤ) (marks₀ : List ℕ) → length s < length group → c .call form w order s group b digits₀ marks₀ .tally .refusal ≢ 20) → ⊥
+  unfolding number
+  below-not-shorter r =
+      r 2 2 highestFirst (1 ∷ []) (0 ∷ 1 ∷ []) (one-byte 1 (lit< tt)) [] [] (lit< tt) (under-refused (1 ∷ []) (0 ∷ 1 ∷ []) (one-byte 1 (lit< tt)) (lit< tt) (good-order (0 ∷ 1 ∷ []) 0 refl (lit< tt) (lit< tt)) (lit≤ tt))
+
+  -- nor is a longer one to be refused
+  pub below-not-longer : ((form w : ℕ) (order : Order) (s group : List ℕ) (b : Bytes s) (digits₀ : List ℤ) (marks₀ : List ℕ) → length group < length s → c .call form w order s group b digits₀ marks₀ .tally .refusal ≢ 0) → ⊥
+  unfolding number
+  below-not-longer r =
+      let s : List ℕ = 0 ∷ 0 ∷ [] in
+      let ds : List ℤ = replicate 17 (pos 0) in
+      let fine = admits 2 2 s 17 9 (allowed 2 2 tt) (groupRules highestFirst s (1 ∷ [])) (good-order (1 ∷ []) 0 refl (lit< tt) (lit< tt), ((λ h. omega arith), tt)) (lit≤ tt) (lit≤ tt) (lit≤ tt) in
+      r 2 2 highestFirst s (1 ∷ []) (zero-bytes 2) ds (replicate 9 0) (lit< tt)
+      (first-only (belowRules 2 2 highestFirst s (1 ∷ []) 17 9) (c .keeps 2 2 highestFirst s (1 ∷ []) (zero-bytes 2) ds (replicate 9 0) .first) (first-none (belowRules 2 2 highestFirst s (1 ∷ []) 17 9) fine) .0)
 
 -- ---- tape and run
 pub record Taper : Type 0 where
@@ -301,7 +357,7 @@ one-line = 48 ∷ 50 ∷ 48 ∷ 50 ∷ 48 ∷ 49 ∷ 48 ∷ 49 ∷ []
 
 one-line-first : First (lineRules one-line) 0 0
 unfolding one-line malformed bytesOf allHex nibble number
-one-line-first = first-none (lineRules one-line) ((λ h. h), admits 2 2 (1 ∷ []) 9 9 (allowed 2 2 tt) (lit≤ tt) (lit≤ tt) (lit≤ tt))
+one-line-first = first-none (lineRules one-line) ((λ h. h), admits 2 2 (1 ∷ []) 9 9 (allowed 2 2 tt) [] tt (lit≤ tt) (lit≤ tt) (lit≤ tt))
 
 -- refusing everything: no answer begins as a frame of its version does
 opens : (v : Version) (ds : List ℤ) (more : List ℕ) → take 2 (lineOf v ds ++ more) ≡ take 2 (lineOf v [])

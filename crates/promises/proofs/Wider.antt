@@ -1,7 +1,7 @@
 -- More width never costs additions: of two accepted recodes of one scalar in one form, wNAF, wMOF or either closest, the one at the larger width answers no larger weight, and the tape of
 -- its string no more additions. From the calls' promises alone. Assumes nothing.
 use mathlib.Core.Path.{_≡_, ap}
-use mathlib.Core.List.{List}
+use mathlib.Core.List.{List, []}
 use Prim.Native.Nat.{ℕ, _+_, _≤_}
 use native.Mathlib.Omega.{arith}
 use lib.IntN.{ℤ}
@@ -24,7 +24,7 @@ module _ {form w v : ℕ} {order : Order} {s : List ℕ} {digits₀ digits₁ : 
   recoded-wider =
       let A = K .accepted z in
       let B = L .accepted y in
-      let two = accepted-width form w s (length digits₀) (length marks₀) (o .tally .place) (K .first) z in
+      let two = accepted-width [] form w s (length digits₀) (length marks₀) (o .tally .place) (K .first) z in
       omega (arith, A .weight-is, B .weight-is, form-wider w v (number order s) (bitCount s) two more (number-lt order s bytes) form light (A .string) (B .string) (A .formed) (B .formed))
 
   -- and the additions of the two strings' tapes do not either

@@ -7,7 +7,7 @@ use mathlib.Core.List.{List}
 use Prim.Native.Nat.{ℕ, zero, suc, _+_, _*_, _-_, _/_, _%_, _^_, _<_, _≤_}
 use native.Mathlib.Omega.{arith}
 use native.Mathlib.Decide.{decLe, decLt, ℕ-discrete}
-use native.Mathlib.Nat.{add-zero, mod-lt, mod-one, zero-mod, zero-mul, one-mul, suc-mul, zero-div, mul-mod-left}
+use native.Mathlib.Nat.{add-zero, div-eq-of-lt, mod-lt, mod-one, zero-mod, zero-mul, one-mul, suc-mul, zero-div, mul-mod-left}
 use lib.Bits.{bitXor, xor-shr, xor-mod, xor-self, xor-add-and, and-le-l, and-le-r}
 use lib.Count.{leadingZeros, trailingZeros, leading-top}
 use lib.IntN.{ℤ, pos, natAbs, _-ℤ_}
@@ -27,7 +27,7 @@ use Rattle.forms.proofs.Ties.{Lowest, lowest-bit, opens-some}
 use Rattle.forms.proofs.Loops.{from, from-done, from-same, from-open, from-last, last-at, from-wmof, from-closest}
 use Rattle.windows.specs.declared.opening.Place.{Place}
 use Rattle.windows.proofs.Opened.{opened-at, opened-last, opened-leading, opened-second, leads, follows, Puts}
-use Rattle.recoder.specs.Sweeps.{Above, Clear, Highest, Swept, Untied, Turns, Turned, openings}
+use Rattle.recoder.specs.Sweeps.{Above, Clear, Highest, Swept, Untied, Turns, Halts, Descent, Turned, openings}
 use Rattle.recoder.proofs.Strings.{zero-at, same-none}
 use Rattle.recoder.proofs.Stretches.{same-low, same-high}
 
@@ -35,13 +35,6 @@ use Rattle.recoder.proofs.Stretches.{same-low, same-high}
 -- and so do those under a digit that is put
 pub clear-put : (d : List ℤ) (p : ℕ) (u : ℤ) (m m′ : ℕ) {d′ : List ℤ} → Clear m d → m′ ≤ p → m′ ≤ m → d′ ≡ set d p u → Clear m′ d′
 clear-put d p u m m′ c h l e j k = ap (λ x. getD x j (pos 0)) e ∙ getD-set-other d p j u (pos 0) (λ q. omega arith) ∙ c j (omega arith)
-
--- ---- the first turn: as many places are left as a buffer of zeros has
-pub cleared : (b w N t n : ℕ) (z d : List ℤ) → length z ≡ n + 1 → d ≡ replicate (length z) (pos 0)
-    → (length d ≡ n + 1) × (from b w N t (length d) d ≡ from b w N t (n + 1) (replicate (n + 1) (pos 0))) × Clear (length d) d
-cleared b w N t n z d l e =
-    let k = ap length e ∙ length-replicate (length z) (pos 0) ∙ l in
-    (k, ap (λ x. from b w N t x d) k ∙ ap (from b w N t (n + 1)) (e ∙ ap (λ x. replicate x (pos 0)) l), λ j h. ap (λ x. getD x j (pos 0)) e ∙ zero-at (length z) j)
 
 -- ---- a turn with m places left
 module _ (b w N t i m : ℕ) (two : 2 ≤ w) (above : suc i ≡ m) (d : List ℤ) where
@@ -73,25 +66,95 @@ module _ (w N t i : ℕ) (two : 2 ≤ w) (low : 0 < N → Lowest N t) (tie : i �
   pub turn-odd : windowBits w N i % 2 ≡ 1
   turn-odd = ap (λ x. windowBits w N x % 2) tie ∙ opened-last w N t ∙ lowest-bit N t (low (opens-some N i differs))
 
--- where it does not, none does
-module _ (w N t i : ℕ) {b s : ℕ} {r : Bool} (two : 2 ≤ w) (tie : i ≡ w + t) (seen : s ≡ windowBits w N i) (turns : Turns w s b r) where
-  pub turn-none : {m : ℕ} → r ≡ false → Untied b w N t 0 m
-  turn-none e j f h k n z =
-      let q : j ≡ i = omega arith in
-      turns .no e (λ x. (rw q at n) (sym (leads w N i s two seen) ∙ x ∙ follows w N i s two seen)) (leads w N i s two seen ∙ rw q at z)
+-- where it does not, none does, and a sweep halts at the end; where it does, it opens, bit b leads, and the sweep halts over it
+module _ (w N t : ℕ) {b s : ℕ} {r : Bool} (two : 2 ≤ w) (seen : s ≡ windowBits w N (t + w)) (turns : Turns w s b r) where
+  abbrev tie : ℕ
+  tie = t + w
 
-  -- where it does, it opens, and bit b leads
-  pub turn-some : r ≡ true → (bit N i ≢ below N i) × (bit N i ≡ b)
-  turn-some e =
+  pub halt-none : r ≡ false → Halts b w N t 0
+  halt-none e = record { none = λ z m. untied; some = λ n. absurd (n refl) }
+    where
+      untied : {m : ℕ} → Untied b w N t 0 m
+      untied j f h k n z =
+          let q : j ≡ tie = omega arith in
+          turns .no e (λ x. (rw q at n) (sym (leads w N tie s two seen) ∙ x ∙ follows w N tie s two seen)) (leads w N tie s two seen ∙ rw q at z)
+
+  pub halt-some : r ≡ true → Halts b w N t (t + w + 1)
+  halt-some e =
       let (n, l) = turns .yes e in
-      (λ x. n (leads w N i s two seen ∙ x ∙ sym (follows w N i s two seen)), sym (leads w N i s two seen) ∙ l)
+      let opens : bit N tie ≢ below N tie = λ x. n (leads w N tie s two seen ∙ x ∙ sym (follows w N tie s two seen)) in
+      record { none = λ z. absurd (omega arith); some = λ z. (refl, opens, sym (leads w N tie s two seen) ∙ l) }
 
--- ---- all windows are written
-pub turned : (b w N n t : ℕ) (ds : List ℤ) → 2 ≤ w → N < 2 ^ n → t ≡ trailingZeros n N → from b w N t (n + 1) (replicate (n + 1) (pos 0)) ≡ ds → Turned b w N n ds
-turned b w N n t ds two small low e =
-    let f : from b w N (trailingZeros n N) (n + 1) (replicate (n + 1) (pos 0)) ≡ ds = ap (λ x. from b w N x (n + 1) (replicate (n + 1) (pos 0))) (sym low) ∙ e in
-    let g : (c : ℕ) → b ≡ c → ds ≡ from c w N (trailingZeros n N) (n + 1) (replicate (n + 1) (pos 0)) = λ c k. sym f ∙ ap (λ x. from x w N (trailingZeros n N) (n + 1) (replicate (n + 1) (pos 0))) k in
-    record { never = λ k. g 2 k ∙ from-wmof w N n two small; at-one = λ k. g 1 k ∙ from-closest w N n two small larger; at-zero = λ k. g 0 k ∙ from-closest w N n two small smaller }
+-- ---- the descent, with t the lowest set bit
+-- a window that opens opens in the scalar or right over it
+opens-within : (N n i : ℕ) → N < 2 ^ n → bit N i ≢ below N i → i ≤ n
+opens-within N n i small opens = go (decLe i n)
+  where
+    none : (m : ℕ) → m < 2 ^ i → m / 2 ^ i % 2 ≡ 0
+    none m l = ap (λ q. q % 2) (div-eq-of-lt l)
+
+    go : Dec (i ≤ n) → i ≤ n
+    go (yes h) = h
+    go (no h) =
+        let k = pow-mono {i = suc n} {j = i} (omega arith) in
+        absurd (opens (none N (omega (arith, k)) ∙ sym (none (2 * N) (omega (arith, k)))))
+
+module _ {b w N t n : ℕ} where
+  -- it starts with a buffer of zeros
+  pub descent-start : {floor : ℕ} (z d : List ℤ) → Halts b w N t floor → N < 2 ^ n → length z ≡ n + 1 → d ≡ replicate (length z) (pos 0) → Descent b w N t n floor (length d) d
+  descent-start {floor} z d h small l e =
+      let k = ap length e ∙ length-replicate (length z) (pos 0) ∙ l in
+      record {
+        same-length = k;
+        within = (rw k (low (ℕ-discrete floor 0)), omega (arith, k));
+        clear = λ j l. ap (λ x. getD x j (pos 0)) e ∙ zero-at (length z) j;
+        comes = sym (ap (λ x. from b w N t x d) k ∙ ap (from b w N t (n + 1)) (e ∙ ap (λ x. replicate x (pos 0)) l));
+        none = λ q. h .none q (length d);
+        some = h .some;
+      }
+    where
+      low : Dec (floor ≡ 0) → floor ≤ n + 1
+      low (yes q) = omega arith
+      low (no q) = let s = h .some q in omega (arith, s .0, opens-within N n (t + w) small (s .1))
+
+  module _ {floor left left′ : ℕ} {d d′ : List ℤ} (c : Descent b w N t n floor left d) (s : Swept w N floor left d left′ d′) where
+    untied : Dec (floor ≡ 0) → Untied b w N t floor left
+    untied (yes q) = λ i f. c .none q i (omega arith)
+    untied (no q) = λ i f l e o k. omega (arith, c .some q .0)
+
+    on : from b w N t (n + 1) (replicate (n + 1) (pos 0)) ≡ from b w N t left′ d′
+    on = c .comes ∙ s .comes b t (untied (ℕ-discrete floor 0))
+
+    -- windows are written: it has not come to the one that turns
+    pub descent-on : floor ≤ left′ → Descent b w N t n floor left′ d′
+    descent-on h =
+        record {
+          same-length = s .same-length ∙ c .same-length;
+          within = (h, omega (arith, s .fewer, c .within .1));
+          clear = s .clear;
+          comes = on;
+          none = λ q i f l. c .none q i f (omega (arith, s .fewer));
+          some = c .some;
+        }
+
+    -- or has passed it
+    pub descent-past : left′ < floor → Descent b w N t n 0 left′ d′
+    descent-past h =
+        record {
+          same-length = s .same-length ∙ c .same-length;
+          within = (omega arith, omega (arith, s .fewer, c .within .1));
+          clear = s .clear;
+          comes = on;
+          none = λ q i f l e o k. omega (arith, c .some (λ z. omega arith) .0);
+          some = λ q. absurd (q refl);
+        }
+
+  -- all windows are written
+  pub descent-end : {ds : List ℤ} → 2 ≤ w → N < 2 ^ n → t ≡ trailingZeros n N → from b w N t (n + 1) (replicate (n + 1) (pos 0)) ≡ ds → Turned b w N n ds
+  descent-end {ds} two small low e =
+      let f : from b w N (trailingZeros n N) (n + 1) (replicate (n + 1) (pos 0)) ≡ ds = ap (λ x. from b w N x (n + 1) (replicate (n + 1) (pos 0))) (sym low) ∙ e in
+      let g : (c : ℕ) → b ≡ c → ds ≡ from c w N (trailingZeros n N) (n + 1) (replicate (n + 1) (pos 0)) = λ c k. sym f ∙ ap (λ x. from x w N (trailingZeros n N) (n + 1) (replicate (n + 1) (pos 0))) k in
+      record { never = λ k. g 2 k ∙ from-wmof w N n two small; at-one = λ k. g 1 k ∙ from-closest w N n two small larger; at-zero = λ k. g 0 k ∙ from-closest w N n two small smaller }
 
 -- ---- the highest set bit of a number that has more than `tail` bits
 pub highest-is : (tail opens z : ℕ) → opens < 2 ^ 64 → 2 ^ tail ≤ opens → z ≡ leadingZeros 64 opens → (z ≤ 63) × (tail ≤ 63 - z) × Highest tail opens (63 - z - tail)
@@ -119,12 +182,6 @@ swept-more s r =
       clear = r .clear;
       comes = λ b t u. s .comes b t u ∙ r .comes b t (λ i f h. u i f (omega (arith, s .fewer)));
     }
-
--- to the end
-pub swept-all : {w N m m′ : ℕ} {ds ds′ : List ℤ} (b t : ℕ) → Swept w N 0 m ds m′ ds′ → m′ ≤ 0 → Untied b w N t 0 m → from b w N t m ds ≡ ds′
-swept-all {w} {N} {m′ = m′} {ds′ = ds′} b t s none u =
-    let z : m′ ≡ 0 = omega arith in
-    s .comes b t u ∙ ap (λ x. from b w N t x ds′) z ∙ from-done b w N t ds′
 
 -- ---- places are passed
 -- whose bits are those under them

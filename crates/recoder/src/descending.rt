@@ -2,13 +2,14 @@
 // all places where one may open. The forms differ at one window at most, which the closest form takes one lower at a tie.
 ghost use mathlib.Core.Path.{_≡_};
 ghost use Prim.Native.Nat.{_+_, _-_, _/_, _%_, _^_, _<_, _≤_};
+ghost use lib.Count.{trailingZeros};
 ghost use lib.ListN.{length};
 ghost use Rattle.meaning.specs.Scalars.{number, orderOf, bitCount, mostBytes};
 ghost use Rattle.meaning.specs.Digits.{mostPlaces};
 ghost use Rattle.meaning.specs.Recoding.{markWords, marksOf};
 ghost use Rattle.width.specs.Widths.{Wide};
 ghost use Rattle.windows.specs.Openings.{Placed};
-ghost use Rattle.recoder.specs.Sweeps.{Clear, Swept, Turns, Turned};
+ghost use Rattle.recoder.specs.Sweeps.{Clear, Swept, Turns, Halts, Tied, Yielded, Turned};
 use crate::opened;
 use crate::places;
 use scalar::STRETCH;
@@ -36,15 +37,14 @@ fn window(w: u32, x: u64, at: u32) -> u32
 }
 
 // Where the digit of a window that opens at place i stands. It is `windows::opening::placed` by what the loop has at hand, which keeps the stack small.
-fn placed(tail: u32, window: Window, i: usize) -> Place
+fn placed(tail: usize, window: Window, i: usize) -> Place
     requires { ⌜ (i < mostPlaces) × (window .twos ≤ tail) × (tail ≤ i + window .twos) ⌝ }
     ensures { λ r. ⌜ Placed (tail + 1) window (i + 1) r ⌝ }
 {
-    let span = tail as usize;
     Place {
-        spot: i + (window.twos as usize) - span,
+        spot: i + (window.twos as usize) - tail,
         unit: window.unit,
-        left: windows::opening::under(i, span),
+        left: windows::opening::under(i, tail),
     }
 }
 
@@ -72,7 +72,7 @@ fn advance(
     ensures { λ r. ⌜ Swept w (number (orderOf order) (now (s .entry))) floor from (now (digits .entry)) r (now (digits .exit)) ⌝ }
     ensures { λ _. ⌜ now (marks .exit) ≡ marksOf (now (digits .exit)) ⌝ }
 {
-    let tail = w - 1;
+    let tail = (w as usize) - 1;
     let lowest = lowest_place(w, from, floor);
     let x = scalar::stretch_under(order, s, lowest, w);
     let mut opens = opened::places(tail, x, from - lowest);
@@ -88,31 +88,6 @@ fn advance(
     smaller(left, lowest)
 }
 
-// Writes the digits of all windows that open at place `floor` or above, with `from` places left. Gives the places left then.
-fn sweep(
-    w: u32,
-    order: u8,
-    s: &[u8],
-    from: usize,
-    floor: usize,
-    digits: &mut [i8],
-    marks: &mut [u64],
-) -> usize
-    requires { ⌜ Wide w ⌝ }
-    requires { ⌜ (from ≤ length (now digits)) × (length (now digits) ≤ mostPlaces) ⌝ }
-    requires { ⌜ now marks ≡ marksOf (now digits) ⌝ }
-    requires { ⌜ Clear from (now digits) ⌝ }
-    ensures { λ r. ⌜ r ≤ floor ⌝ }
-    ensures { λ r. ⌜ Swept w (number (orderOf order) (now (s .entry))) floor from (now (digits .entry)) r (now (digits .exit)) ⌝ }
-    ensures { λ _. ⌜ now (marks .exit) ≡ marksOf (now (digits .exit)) ⌝ }
-{
-    let mut left = from;
-    while floor < left {
-        left = advance(w, order, s, left, floor, digits, marks);
-    }
-    left
-}
-
 // Whether window `bits` opens and leads with the bit `turn`.
 fn turns(w: u32, bits: u32, turn: u32) -> bool
     requires { ⌜ Wide w ⌝ }
@@ -121,8 +96,36 @@ fn turns(w: u32, bits: u32, turn: u32) -> bool
     windows::opening::opens(w, bits) && bits >> w == turn
 }
 
-// Writes the string of `s` into exactly as many places as it has, and marks them. One window may tie, w places above the lowest set bit. Where it leads with `turn` and is
-// come to, it is taken one lower, and a 1 at the lowest set bit makes up for it.
+// Where the descent halts: over the window of the tie, w places above the lowest set bit, where it opens and leads with `turn`; else at the end.
+fn halt(w: u32, turn: u32, order: u8, s: &[u8]) -> usize
+    requires { ⌜ Wide w ⌝ }
+    requires { ⌜ length (now s) ≤ mostBytes ⌝ }
+    ensures { λ r. ⌜ Halts turn w (number (orderOf order) (now (s .entry))) (trailingZeros (bitCount (now (s .entry))) (number (orderOf order) (now (s .entry)))) r ⌝ }
+{
+    let tie = scalar::lowest(order, s) + (w as usize);
+    let bits = scalar::window(order, s, tie, w);
+    if turns(w, bits, turn) { tie + 1 } else { 0 }
+}
+
+// Takes the window of the tie one lower, and a 1 at the lowest set bit makes up for it. Where both lie is read again: kept, it would take stack through the loop.
+fn last(w: u32, order: u8, s: &[u8], digits: &mut [i8], marks: &mut [u64])
+    requires { ⌜ Wide w ⌝ }
+    requires { ⌜ length (now s) ≤ mostBytes ⌝ }
+    requires { ⌜ length (now digits) ≡ bitCount (now s) + 1 ⌝ }
+    requires { ⌜ now marks ≡ marksOf (now digits) ⌝ }
+    requires { ⌜ Tied w (number (orderOf order) (now s)) (trailingZeros (bitCount (now s)) (number (orderOf order) (now s))) (now digits) ⌝ }
+    ensures { λ _. ⌜ Yielded w (number (orderOf order) (now (s .entry))) (trailingZeros (bitCount (now (s .entry))) (number (orderOf order) (now (s .entry)))) (now (digits .entry)) (now (digits .exit)) ⌝ }
+    ensures { λ _. ⌜ now (marks .exit) ≡ marksOf (now (digits .exit)) ⌝ }
+{
+    let low = scalar::lowest(order, s);
+    let tie = low + (w as usize);
+    let bits = scalar::window(order, s, tie, w);
+    let place = windows::opening::placed(w, windows::work_out(w, bits, 1), tie + 1);
+    places::put(digits, marks, place.spot, place.unit);
+    places::put(digits, marks, low, 1);
+}
+
+// Writes the string of `s` into exactly as many places as it has, and marks them. One window may tie: where it turns and is come to, it yields.
 pub fn write(w: u32, turn: u32, order: u8, s: &[u8], digits: &mut [i8], marks: &mut [u64])
     requires { ⌜ Wide w ⌝ }
     requires { ⌜ length (now s) ≤ mostBytes ⌝ }
@@ -132,19 +135,15 @@ pub fn write(w: u32, turn: u32, order: u8, s: &[u8], digits: &mut [i8], marks: &
     ensures { λ _. ⌜ now (marks .exit) ≡ marksOf (now (digits .exit)) ⌝ }
 {
     places::clear(digits, marks);
-    let low = scalar::lowest(order, s);
-    let tie = low + (w as usize);
-    let bits = scalar::window(order, s, tie, w);
-    if !turns(w, bits, turn) {
-        sweep(w, order, s, digits.len(), 0, digits, marks);
-        return;
+    let mut floor = halt(w, turn, order, s);
+    let mut left = digits.len();
+    while floor < left {
+        left = advance(w, order, s, left, floor, digits, marks);
+        if left < floor {
+            floor = 0;
+        }
     }
-    let left = sweep(w, order, s, digits.len(), tie + 1, digits, marks);
-    if left < tie + 1 {
-        sweep(w, order, s, left, 0, digits, marks);
-        return;
+    if floor != 0 {
+        last(w, order, s, digits, marks);
     }
-    let place = windows::opening::placed(w, windows::work_out(w, bits, 1), left);
-    places::put(digits, marks, place.spot, place.unit);
-    places::put(digits, marks, low, 1);
 }

@@ -4,7 +4,7 @@ ghost use Prim.Native.Nat.{_+_, _%_, _^_, _<_, _≤_};
 ghost use Rattle.recoder.specs.Sweeps.{Highest, openings};
 
 // Those among the first `count` places of stretch x, told `tail` places higher up: so many places a window has under its first.
-pub fn places(tail: u32, x: u64, count: usize) -> u64
+pub fn places(tail: usize, x: u64, count: usize) -> u64
     requires { ⌜ count + tail ≤ 56 ⌝ }
     ensures { λ r. ⌜ r ≡ openings tail x count ⌝ }
 {
@@ -12,11 +12,11 @@ pub fn places(tail: u32, x: u64, count: usize) -> u64
 }
 
 // The highest of them.
-pub fn highest(tail: u32, opens: u64) -> u32
+pub fn highest(tail: usize, opens: u64) -> u32
     requires { ⌜ 2 ^ tail ≤ opens ⌝ }
     ensures { λ r. ⌜ Highest tail opens r ⌝ }
 {
-    63 - u64::leading_zeros(opens) - tail
+    63 - u64::leading_zeros(opens) - tail as u32
 }
 
 // Those that are left under a window that opens at place `at`.

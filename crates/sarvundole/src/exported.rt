@@ -1,7 +1,7 @@
 // The calls for C. A slice is a pointer and a count there, an answer a struct by value, and an order of bytes a byte: 0 highest first, anything else lowest first. Each promises what the call that it makes promises.
 ghost use mathlib.Core.Path.{_≡_};
 ghost use Rattle.meaning.specs.Scalars.{orderOf};
-ghost use Rattle.meaning.specs.Recoding.{Recode};
+ghost use Rattle.meaning.specs.Recoding.{Recode, RecodeBelow};
 ghost use Rattle.meaning.specs.Checking.{checkRules, nonadjacentRules, Check};
 ghost use Rattle.meaning.specs.Taping.{Tape};
 ghost use Rattle.meaning.specs.Running.{Run};
@@ -79,6 +79,29 @@ pub extern "C" fn sarvundole_recode(
     ensures { λ r. ⌜ Recode form width (orderOf order) (now (scalar .entry)) (now (digits .entry)) (now (marks .entry)) (told r) (now (digits .exit)) (now (marks .exit)) ⌝ }
 {
     recoder::recode(form, width, scalar::order_of(order), scalar, digits, marks)
+}
+
+#[no_mangle]
+pub extern "C" fn sarvundole_recode_below(
+    form: u8,
+    width: u8,
+    order: u8,
+    scalar: &[u8],
+    group: &[u8],
+    digits: &mut [i8],
+    marks: &mut [u64],
+) -> Tally
+    ensures { λ r. ⌜ RecodeBelow form width (orderOf order) (now (scalar .entry)) (now (group .entry)) (now (digits .entry)) (now (marks .entry)) (told r) (now (digits .exit)) (now (marks .exit)) ⌝ }
+{
+    recoder::recode_below(
+        form,
+        width,
+        scalar::order_of(order),
+        scalar,
+        group,
+        digits,
+        marks,
+    )
 }
 
 #[no_mangle]

@@ -24,6 +24,7 @@ pub use recoder::MOF;
 pub use recoder::WMOF;
 pub use recoder::WNAF;
 pub use recoder::recode;
+pub use recoder::recode_below;
 pub use run::Cost;
 pub use run::Outcome;
 pub use run::Ran;

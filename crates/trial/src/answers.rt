@@ -1,4 +1,5 @@
 // The answer to a line: its bytes are read, the call that they name is made, and what it answers is printed.
+use crate::bounding;
 use crate::checking;
 use crate::framing;
 use crate::parsing;
@@ -32,12 +33,14 @@ fn call(frame: &[u8], out: &mut [u8]) -> usize
         0x05 => running::answer(frame, out),
         0x06 => reading::answer(Order::HighestFirst, frame, out),
         0x07 => searching::answer(frame, out),
+        0x0B => bounding::answer(Order::HighestFirst, frame, out),
         0x0E => framing::answer(frame, out),
         0x0F => parsing::answer(frame, out),
         0x81 => recoding::answer(Order::LowestFirst, frame, out),
         0x82 => checking::answer(false, Order::LowestFirst, frame, out),
         0x83 => checking::answer(true, Order::LowestFirst, frame, out),
         0x86 => reading::answer(Order::LowestFirst, frame, out),
+        0x8B => bounding::answer(Order::LowestFirst, frame, out),
         _ => 0,
     }
 }

@@ -2,6 +2,7 @@
 // Here is the memory that lines and answers stand in.
 mod answers;
 mod asked;
+mod bounding;
 mod checking;
 mod framing;
 mod input;

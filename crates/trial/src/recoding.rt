@@ -2,6 +2,7 @@
 use crate::asked;
 use crate::lent;
 use crate::print;
+use digits::Tally;
 use scalar::Order;
 ghost use mathlib.Core.Path.{_≡_};
 ghost use Prim.Native.Nat.{_+_, _*_, _≤_};
@@ -37,6 +38,16 @@ fn put_marks(marks: &[u64], at: usize, out: &mut [u8]) -> usize
     next
 }
 
+// An answer: its fields, and both buffers.
+pub fn put(tally: Tally, digits: &[i8], marks: &[u64], out: &mut [u8]) -> usize
+    requires { ⌜ 14 + 2 * length (now digits) + 16 * length (now marks) ≤ length (now out) ⌝ }
+    ensures { λ r. ⌜ r ≡ 14 + 2 * length (now (digits .entry)) + 16 * length (now (marks .entry)) ⌝ }
+{
+    let at = print::fields(tally.refusal, tally.place, tally.weight, tally.top, out);
+    let at = put_digits(digits, at, out);
+    put_marks(marks, at, out)
+}
+
 // The call, and its answer.
 fn made(
     form: u8,
@@ -51,9 +62,7 @@ fn made(
     ensures { λ r. ⌜ r ≡ 14 + 2 * length (now (digits .entry)) + 16 * length (now (marks .entry)) ⌝ }
 {
     let tally = recoder::recode(form, width, order, scalar, digits, marks);
-    let at = print::fields(tally.refusal, tally.place, tally.weight, tally.top, out);
-    let at = put_digits(digits, at, out);
-    put_marks(marks, at, out)
+    put(tally, digits, marks, out)
 }
 
 // The answer to a frame, and where it ends: nothing where the bytes are no such frame.

@@ -1,6 +1,7 @@
 -- `recoder::judge` meets its contract: the rules before the first that applies do not. Assumes nothing.
 use mathlib.Core.Path.{refl}
 use mathlib.Core.Logic.{inl, inr, ⊎-elim}
+use mathlib.Core.List.{[]}
 use native.Mathlib.Omega.{arith}
 use borrow.Author.Needs.{needs}
 use denote.Ref.{now}
@@ -80,7 +81,7 @@ returns-8 c =
       short = omega arith;
       room = omega arith;
       marks = omega arith;
-      first = first-none (recodeRules (a .form) (a .width) (now (a .s)) (a .places) (a .words)) (admits (a .form) (a .width) (now (a .s)) (a .places) (a .words) (allowed p) (omega arith) (omega arith) (omega arith));
+      first = first-none (recodeRules (a .form) (a .width) (now (a .s)) (a .places) (a .words)) (admits (a .form) (a .width) (now (a .s)) (a .places) (a .words) (allowed p) [] tt (omega arith) (omega arith) (omega arith));
     }
 
 pub judge-spec : {M : Type 1} → statement M

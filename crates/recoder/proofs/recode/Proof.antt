@@ -1,86 +1,18 @@
--- `recoder::recode` meets its contract: a refusal leaves both buffers, and on acceptance their first places and words are written. Assumes nothing.
-use mathlib.Core.Path.{_≡_, refl, sym, ap, subst, _∙_}
-use mathlib.Core.List.{_++_}
-use native.Mathlib.Omega.{arith}
+-- `recoder::recode` meets its contract: the byte tells the order. Assumes nothing.
+use mathlib.Core.Path.{_≡_, ap, _∙_}
 use borrow.Author.Needs.{needs}
-use lib.ListN.{length, drop}
-use lib.Seq.{length-take-le}
-use denote.Ref.{now}
-use Rattle.meaning.specs.Scalars.{number, orderOf, bitCount}
-use Rattle.meaning.specs.Forms.{Form}
+use Rattle.meaning.specs.Scalars.{orderOf}
 use Rattle.scalar.specs.Orders.{ordered}
 use Rattle.scalar.proofs.Orders.{code-tells}
-use Rattle.recoder.specs.Judged.{Admits, Admitted}
 use Rattle.recoder.proofs.recode.Statement.{statement}
 use Rattle.recoder.proofs.recode.Tie as tie
 
--- what the judgement says where the call goes on
-abbrev start : tie.After-known-told2 → tie.Start
-start c = c .before .before .before .before .before .before
-
-admitted : (c : tie.After-known-told2) → let a = start c .args in Admitted (a .form) (a .width) (now (a .s)) (length (now (a .digits))) (length (now (a .marks))) (c .before .judged2 .given .0 .0)
-unfolding Admits
-admitted c =
-    let a = start c .args in
-    subst (λ r. Admits (a .form) (a .width) (now (a .s)) (length (now (a .digits))) (length (now (a .marks))) r) (c .before .judged2 .given .1) (c .before .before .before .judge .ensures)
-
-mul-places : tie.Need-mul-places
-mul-places c = omega (arith, admitted c .short)
-
-add-places : tie.Need-add-places
-add-places c = omega (arith, admitted c .short)
-
-slice-relend-prefix-fill : tie.Need-slice-relend-prefix-fill
-slice-relend-prefix-fill c = admitted (c .before) .room
-
-slice-aggregate-fill : tie.Need-slice-aggregate-fill
-slice-aggregate-fill c = sym (length-take-le _ _ (admitted (c .before .before) .room))
-
-slice-relend-prefix-fill-2 : tie.Need-slice-relend-prefix-fill-2
-slice-relend-prefix-fill-2 c = admitted (c .before .before) .marks
-
-slice-aggregate-fill-2 : tie.Need-slice-aggregate-fill-2
-slice-aggregate-fill-2 c = sym (length-take-le 9 (now (start (c .before .before .before) .args .marks)) (admitted (c .before .before .before) .marks))
-
-fill-requires : tie.Need-fill-requires
-fill-requires c κs =
-    let A = admitted (c .before .before .before) in
-    (rw (A .bits-is) (A .allowed), (A .short, (length-take-le _ _ (A .room), length-take-le 9 (now (start (c .before .before .before) .args .marks)) (A .marks))))
-
 returns : tie.Need-returns
-unfolding Admits
 returns c =
-    let a = c .before .before .before .before .before .before .args in
-    let J = subst (λ r. Admits (a .form) (a .width) (now (a .s)) (length (now (a .digits))) (length (now (a .marks))) r) (c .before .judged .given .1) (c .before .before .before .judge .ensures) in
-    record {
-      first = J .1;
-      accepted = λ e. absurd (J .0 e);
-      refused = λ n. record { digits-are = refl; marks-are = refl; weight-is = refl; top-is = refl };
-    }
-
-returns-2 : tie.Need-returns-2
-returns-2 c =
-    let f = c .before .before .before in
-    let k = f .before .before .before in
-    let a = start (k .before) .args in
-    let A = admitted (k .before) in
-    let o : orderOf (k .code-of .result) ≡ ordered (a .order) = ap orderOf (k .code-of .ensures) ∙ code-tells (ordered (a .order)) in
-    let W = f .fill .ensures in
-    record {
-      first = rw (W .accepted, W .no-place) (A .first);
-      accepted = λ e. record {
-        string = f .fill .last .1 .1 .1 .1 .0;
-        formed = subst (λ w. Form (a .form) w (number (ordered (a .order)) (now (a .s))) (bitCount (now (a .s))) (f .fill .last .1 .1 .1 .1 .0)) (A .bits-is) (rw o at (W .formed));
-        digits-are = refl;
-        marks-are = ap (λ x. x ++ drop 9 (now (a .marks))) (W .marks-are);
-        weight-is = W .weight-is;
-        top-is = W .top-is;
-      };
-      refused = λ n. absurd (n (W .accepted));
-    }
+    let r = c .before .before .before in
+    let k = r .before .before .before in
+    let o : orderOf (k .code-of .result) ≡ ordered (k .before .before .before .args .order) = ap orderOf (k .code-of .ensures) ∙ code-tells (ordered (k .before .before .before .args .order)) in
+    rw o at (r .recode-by .ensures)
 
 pub recode-spec : {M : Type 1} → statement M
-recode-spec =
-    tie.close
-    (tie.spec (λ c κs. search needs) (λ c. search needs) (λ c. search needs) mul-places add-places (λ c κs. search needs) slice-relend-prefix-fill slice-aggregate-fill
-    slice-relend-prefix-fill-2 slice-aggregate-fill-2 fill-requires returns (λ c. search needs) (λ c. search needs) returns-2)
+recode-spec = tie.close (tie.spec (λ c κs. search needs) (λ c κs. search needs) (λ c. search needs) (λ c. search needs) returns)

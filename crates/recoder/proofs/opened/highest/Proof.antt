@@ -14,6 +14,9 @@ found c = highest-is (c .args .tail) (c .args .opens) (leadingZeros 64 (c .args 
 sub-result : tie.Need-sub-result
 sub-result c = found c .0
 
+cast-result : tie.Need-cast-result
+cast-result c = omega (arith, found c .1)
+
 sub-result-2 : tie.Need-sub-result-2
 sub-result-2 c = found c .1
 
@@ -21,4 +24,4 @@ returns : tie.Need-returns
 returns c = found c .2
 
 pub highest-spec : {M : Type 1} → statement M
-highest-spec = tie.close (tie.spec sub-result sub-result-2 returns)
+highest-spec = tie.close (tie.spec sub-result cast-result sub-result-2 returns)
