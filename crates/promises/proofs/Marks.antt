@@ -15,8 +15,8 @@ use Rattle.meaning.specs.Digits.{nonzero, weight}
 use Rattle.meaning.specs.Recoding.{markWords, marked, marksOf}
 use Rattle.forms.proofs.Strings.{nonzero-le, nonzero-one, nonzero-none}
 use Rattle.scalar.proofs.Bytes.{Bytes}
-use Rattle.recoder.specs.Ones.{onesOf}
-use Rattle.recoder.proofs.Marking.{marks-length, marks-at, marks-weight}
+use Rattle.places.specs.Ones.{onesOf}
+use Rattle.places.proofs.Marking.{marks-length, marks-at, marks-weight}
 use Rattle.promises.proofs.Recode as Recoding
 use Rattle.promises.proofs.Demand2.{recoded-string}
 use Rattle.promises.proofs.EndToEnd.{string, recoded-legal}

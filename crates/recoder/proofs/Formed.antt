@@ -14,7 +14,7 @@ use Rattle.forms.specs.Wnaf.{wnafFrom}
 use Rattle.forms.specs.Closest.{closestOf}
 use Rattle.forms.proofs.Wnaf.{wnaf-is}
 use Rattle.forms.proofs.Ties.{closest-is}
-use Rattle.recoder.specs.Sweeps.{Turned}
+use Rattle.descending.specs.Sweeps.{Turned}
 
 module _ (f w N n : ℕ) (ds : List ℤ) where
   pub is-mof : f ≡ 1 → ds ≡ mof N n → Form f w N n ds

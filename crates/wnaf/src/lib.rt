@@ -1,0 +1,160 @@
+// Form 2, wNAF: from the lowest place up, a stretch of the scalar at a time. A stretch holds what remains, and each digit is taken off it: the zeros under the
+// digit are jumped over by their count, and the w - 1 zeros after it with it.
+ghost use mathlib.Core.Path.{_≡_};
+ghost use Prim.Native.Nat.{_+_, _*_, _-_, _/_, _%_, _^_, _<_, _≤_};
+ghost use lib.IntN.{pos, negℤ, _-ℤ_};
+ghost use lib.ListN.{length};
+ghost use Rattle.meaning.specs.Scalars.{number, orderOf, bitCount, mostBytes};
+ghost use Rattle.meaning.specs.Digits.{mostPlaces, top};
+ghost use Rattle.meaning.specs.Recoding.{markWords, marksOf};
+ghost use Rattle.width.specs.Widths.{Wide};
+ghost use Rattle.forms.specs.Wnaf.{wnafFrom};
+ghost use Rattle.wnaf.specs.Stretches.{Carried, Standing, Takes};
+use scalar::STRETCH;
+
+// How far the string is written, the carry that goes on, and the top so far.
+struct Reach {
+    place: usize,
+    carry: u64,
+    top: usize,
+}
+
+// A size below nought.
+fn minus(size: u64) -> i8
+    requires { ⌜ size < 128 ⌝ }
+    ensures { λ r. ⌜ r ≡ negℤ (pos size) ⌝ }
+{
+    0 - (size as i8)
+}
+
+// The digit by what is left over of a number that was raised by half the span of a digit.
+fn lowered(rest: u64, half: u64) -> i8
+    requires { ⌜ (0 < rest) × (rest < 2 * half) × (half ≤ 128) ⌝ }
+    ensures { λ r. ⌜ r ≡ pos rest -ℤ pos half ⌝ }
+{
+    if rest < half {
+        return minus(half - rest);
+    }
+    (rest - half) as i8
+}
+
+// A digit below nought is paid back by a carry.
+fn carried(rest: u64, half: u64) -> u64
+    ensures { λ r. ⌜ Carried rest half r ⌝ }
+{
+    if rest < half { 1 } else { 0 }
+}
+
+// Half the span of a digit: a power of two over every digit.
+fn half_span(w: u32) -> u64
+    requires { ⌜ Wide w ⌝ }
+    ensures { λ r. ⌜ r ≡ 2 ^ (w - 1) ⌝ }
+{
+    1u64 << (w - 1)
+}
+
+// A digit, the carry that goes on, and what remains after it, as far as the stretch goes.
+struct Taken {
+    digit: i8,
+    carry: u64,
+    rest: u64,
+}
+
+// Takes the digit off what remains over its trailing zeros, where `half` is half its span. Nothing is written.
+fn take(w: u32, x: u64, zeros: u32, half: u64) -> Taken
+    requires { ⌜ (w ≤ 8) × (2 * half ≡ 2 ^ w) ⌝ }
+    requires { ⌜ (zeros < 64) × (0 < half) × (half ≤ 128) × (x < 2 ^ 57) ⌝ }
+    requires { ⌜ 0 < (x / 2 ^ zeros + half) % (2 * half) ⌝ }
+    ensures { λ r. ⌜ Takes x zeros half (r .digit) (r .carry) (r .rest) ⌝ }
+{
+    let raised = (x >> zeros) + half;
+    let rest = raised % (2 * half);
+    Taken {
+        digit: lowered(rest, half),
+        carry: carried(rest, half),
+        rest: raised >> w,
+    }
+}
+
+// The last place where a digit may start that ends in the stretch from place `from` on.
+fn last_start(w: u32, from: usize, places: usize) -> usize
+    requires { ⌜ Wide w ⌝ }
+    requires { ⌜ (from < places) × (places ≤ mostPlaces) ⌝ }
+    ensures { λ r. ⌜ (from ≤ r) × (r < places) × (r + w ≤ from + 56) ⌝ }
+{
+    let last = from + (STRETCH - (w as usize));
+    if last < places { last } else { places - 1 }
+}
+
+// Where to go on from place i, if no digit starts up to place `last`.
+fn onward(i: usize, last: usize) -> usize
+    requires { ⌜ last < mostPlaces ⌝ }
+    ensures { λ r. ⌜ (i ≤ last → r ≡ last + 1) × (last < i → r ≡ i) ⌝ }
+{
+    if i <= last { last + 1 } else { i }
+}
+
+// Writes the digits that start and end in the stretch from place `from` on. What remains there is x, as far as the stretch goes.
+fn advance(
+    w: u32,
+    order: u8,
+    s: &[u8],
+    from: usize,
+    before: u64,
+    under: usize,
+    digits: &mut [i8],
+    marks: &mut [u64],
+) -> Reach
+    requires { ⌜ Wide w ⌝ }
+    requires { ⌜ length (now s) ≤ mostBytes ⌝ }
+    requires { ⌜ from < length (now digits) ⌝ }
+    requires { ⌜ Standing w (orderOf order) (now s) from before under (now digits) (now marks) ⌝ }
+    ensures { λ r. ⌜ from < r .place ⌝ }
+    ensures { λ r. ⌜ Standing w (orderOf order) (now (s .entry)) (r .place) (r .carry) (r .top) (now (digits .exit)) (now (marks .exit)) ⌝ }
+{
+    let half = half_span(w);
+    let mut carry = before;
+    let mut top = under;
+    let mut i = from;
+    let mut x = scalar::stretch(order, s, from) + before;
+    let mut zeros = u64::trailing_zeros(x);
+    let last = last_start(w, from, digits.len());
+    while i + (zeros as usize) <= last {
+        let at = i + (zeros as usize);
+        let taken = take(w, x, zeros, half);
+        places::put(digits, marks, at, taken.digit);
+        carry = taken.carry;
+        x = taken.rest;
+        top = at + 1;
+        i = at + (w as usize);
+        zeros = u64::trailing_zeros(x);
+    }
+    Reach {
+        place: onward(i, last),
+        carry: carry,
+        top: top,
+    }
+}
+
+// Writes the string of `s` into exactly as many places as it has, and its marks. The last digit has the top.
+pub fn write(w: u32, order: u8, s: &[u8], digits: &mut [i8], marks: &mut [u64]) -> usize
+    requires { ⌜ Wide w ⌝ }
+    requires { ⌜ length (now s) ≤ mostBytes ⌝ }
+    requires { ⌜ length (now digits) ≡ bitCount (now s) + 1 ⌝ }
+    requires { ⌜ length (now marks) ≡ markWords ⌝ }
+    ensures { λ _. ⌜ now (digits .exit) ≡ wnafFrom w (bitCount (now (s .entry)) + 1) (number (orderOf order) (now (s .entry))) ⌝ }
+    ensures { λ _. ⌜ now (marks .exit) ≡ marksOf (now (digits .exit)) ⌝ }
+    ensures { λ r. ⌜ r ≡ top (now (digits .exit)) ⌝ }
+{
+    places::clear(digits, marks);
+    let mut carry: u64 = 0;
+    let mut top: usize = 0;
+    let mut i: usize = 0;
+    while i < digits.len() {
+        let reach = advance(w, order, s, i, carry, top, digits, marks);
+        carry = reach.carry;
+        top = reach.top;
+        i = reach.place;
+    }
+    top
+}
