@@ -1,4 +1,4 @@
-"""The lines that the programs recode, sparse and trial are run on: document 01's edges, its known strings, the papers' worked
+"""The lines that the programs recode, sparse, salvage and trial are run on: document 01's edges, its known strings, the papers' worked
 examples, every small case, refusals two and more at once, malformed lines, and random cases from a fixed seed.
 
 Here are inputs only. What is to be answered comes from second.py; where a paper or document 01 prints an answer, it is
@@ -897,6 +897,38 @@ def any_read(rng):
     if rng.random() < 0.6:
         line = damaged(rng, line)
     return read(max(len(digits) + rng.choice([0, 0, 0, 3, -1]), 0), line)
+
+
+def good_frame(rng):
+    """A line that is read without refusal: a frame of either version, or a refused line."""
+    return second.frame_of(rng.choice([1, 2]), frame_string(rng)) if rng.random() < 0.97 else b"%02X" % rng.choice(sorted(second.STATED))
+
+
+def damaged_file(rng, count):
+    """So many frames of both versions as a pulled card has them, about half of the lines damaged; the last one may have no line feed."""
+    lines = [good_frame(rng) for _ in range(count)]
+    lines = [damaged(rng, line) if rng.random() < 0.5 else line for line in lines]
+    return b"\n".join(lines) + rng.choice([b"", b"\n"])
+
+
+def salvage_edges():
+    """Lines at the limits, every line of one byte, and line ends and characters that are no frame's."""
+    full, thin = [1] * MOST_PLACES, [0] * MOST_PLACES
+    frames = [second.frame_of(version, digits) for version in (1, 2) for digits in ([], [0], [-128, 127], full, thin, full + [1], thin + [0])]
+    good = second.frame_of(2, [1, 0, -1])
+    yield from frames
+    yield from (line.lower() for line in frames)
+    yield from (b"%02X" % b for b in range(256))
+    yield from (b"%02x" % b for b in range(256))
+    yield from (b"", b"0", b"\r", good + b"\r", b" " + good, good + b" ", b"\0", good + b"\0", b"\0" * 40, b"\xff" * 40, good + good, b"g" + good[1:])
+    yield from (b"0" * (second.MOST_LINE + more) for more in (-1, 0, 1, 2))
+    yield from (second.frame_of(2, full) + more for more in (b"0", b"00", b"000000"))
+    yield from (good[:at] for at in range(len(good)))
+
+
+def salvage_input():
+    """The stored standard input of salvage; its last line has no line feed."""
+    return b"\n".join(salvage_edges()) + b"\n" + damaged_file(random.Random(SEED + 2), 1200).rstrip(b"\n")
 
 
 def some_trial_line(rng):

@@ -5,7 +5,7 @@ Nothing here is taken from the library. Numbers are Python's integers. MOF comes
 residues, wMOF from the document's windows, the closest form from trying candidates, worth from summing, the search
 from trying every digit. The functions are short and slow; that they and the library agree is the point.
 
-    python3 tests/second.py write    writes stdin and stdout of the programs recode, sparse and trial
+    python3 tests/second.py write    writes stdin and stdout of the programs recode, sparse, salvage and trial
     python3 tests/second.py check    makes them again and says where what is stored differs (exit 1)
     python3 tests/second.py widths   weighs every scalar of one and of two bytes at every width, in every form but MOF; minutes
 
@@ -52,6 +52,7 @@ the longest frame is that of a line to read: 3,303 bytes, 6,606 characters, and 
 
 import functools
 import os
+import random
 import sys
 
 sys.dont_write_bytecode = True  # the tests leave no folder of their own
@@ -65,6 +66,7 @@ MOST_CHARACTERS = 144
 FORMS = MOF, WNAF, WMOF, CLOSEST, SMALLER = 1, 2, 3, 4, 5
 OPENING = 0xA2  # the first byte of a frame of version 2
 STATED = set(range(1, 17)) - {6}  # the numbers that a refused line gives
+MOST_LINE = 14 + 6 * MOST_PLACES  # the characters of version 2 with 529 nonzero digits
 
 
 # ---- scalars and digits
@@ -501,6 +503,26 @@ def sparse_answer(line):
     return recode_answer(line, version=2)
 
 
+# ---- the program salvage
+def verdict(line):
+    """The refusal of a line of a damaged file, 0 where it is kept."""
+    return 16 if len(line) > MOST_LINE else read(line, [0] * MOST_PLACES)[0][0]
+
+
+def salvage(data):
+    """What is kept of a file, and the report."""
+    kept, report = [], []
+    for count, line in enumerate(lines_of(data), 1):
+        refusal = verdict(line)
+        if refusal != 0:
+            report.append(b"%d dropped %d\n" % (count, refusal))
+            continue
+        kept.append(line.upper() + b"\n")
+        if line.upper() != line:
+            report.append(b"%d case only\n" % count)
+    return b"".join(kept), b"".join(report)
+
+
 # ---- the trial program
 LENT_DIGIT, LENT_MARK, LENT_WORD, LENT_MULTIPLE, LENT_CHARACTER = 0x5A, 0xA5A5A5A5A5A5A5A5, 0xEEEE, 0xDEADBEEF, 0x2E
 TRIAL_PLACES, TRIAL_MARKS, TRIAL_WORDS = 600, 12, 1100
@@ -629,7 +651,9 @@ ANSWERS = {"recode": recode_answer, "sparse": sparse_answer, "trial": trial_answ
 
 
 def output_of(program, data):
-    """What a program writes for its whole input."""
+    """What a program writes to standard output for its whole input."""
+    if program == "salvage":
+        return salvage(data)[0]
     return b"".join(ANSWERS[program](line) + b"\n" for line in lines_of(data))
 
 
@@ -716,12 +740,28 @@ def check_frames():
         assert refusal in (0, 21) and (refusal != 0 or frame_of(2, digits[:count]) == line)
 
 
+def check_salvage():
+    """What was salvaged is kept whole with no remark, and what follows a line feed is judged as if it stood alone."""
+    import cases
+
+    for seed in range(40):
+        data = cases.damaged_file(random.Random(f"salvage {seed}"), 12)
+        kept, report = salvage(data)
+        assert salvage(kept) == (kept, b"")
+        for at in (i for i, c in enumerate(data) if c == 10):
+            before, after = data[: at + 1], data[at + 1 :]
+            moved = [line.split(b" ", 1) for line in lines_of(salvage(after)[1])]
+            again = b"".join(b"%d %s\n" % (int(n) + before.count(10), words) for n, words in moved)
+            assert kept == salvage(before)[0] + salvage(after)[0] and report == salvage(before)[1] + again
+
+
 def own_checks():
     check_forms()
     check_nearest()
     check_tapes()
     check_orders()
     check_frames()
+    check_salvage()
     check_widths(1)
 
 
@@ -732,7 +772,7 @@ def stored_files():
 
     files = {}
     asked = cases.recode_input()
-    for program, data in (("recode", asked), ("sparse", asked), ("trial", cases.trial_input())):
+    for program, data in (("recode", asked), ("sparse", asked), ("salvage", cases.salvage_input()), ("trial", cases.trial_input())):
         files[f"crates/{program}/stdin"] = data
         files[f"crates/{program}/stdout"] = output_of(program, data)
     return files

@@ -98,7 +98,7 @@ lines-last [] t = refl
 lines-last (c ∷ []) (n, t) = rw (ne-eqb c lineFeed n)
 lines-last (c ∷ d ∷ p) (n, t) = rw (ne-eqb c lineFeed n, lines-last (d ∷ p) t)
 
-lines-first : (p cs : List ℕ) → plain p → linesOf (p ++ (lineFeed ∷ cs)) ≡ p ∷ linesOf cs
+pub lines-first : (p cs : List ℕ) → plain p → linesOf (p ++ (lineFeed ∷ cs)) ≡ p ∷ linesOf cs
 unfolding linesOf
 lines-first [] cs t = refl
 lines-first (c ∷ p) cs (n, t) = rw (ne-eqb c lineFeed n, lines-first p cs t)

@@ -1,17 +1,19 @@
--- Bytes and their characters, each had back from the other: what is written for bytes is read to them, and pairs in capitals are what is written for their bytes.
+-- Bytes and their characters, each had back from the other: what is written for bytes is read to them, and pairs in capitals are what is written for their bytes. A line in capitals is
+-- read as the line is.
 -- Assumes nothing.
 use mathlib.Core.Path.{_≡_, refl, sym, ap, _∙_}
-use mathlib.Core.Bool.{Bool, true, false, _&&_}
+use mathlib.Core.Logic.{_≢_}
+use mathlib.Core.Bool.{Bool, true, false, _&&_, _||_}
 use mathlib.Core.List.{List, [], _∷_}
-use Prim.Native.Nat.{ℕ, _+_, _*_, _-_, _/_, _%_, _<_, _≤_}
+use Prim.Native.Nat.{ℕ, suc, _+_, _*_, _-_, _/_, _%_, _<_, _≤_}
 use native.Mathlib.Omega.{arith}
 use native.Mathlib.Decide.{decLe, decLt}
 use lib.Dec.{ltb, eqb}
 use lib.ListN.{length}
 use borrow.Author.Tests.{le-leb, lt-leb, lt-ltb, le-ltb, eq-eqb, ltb-true, eqb-true}
 use Rattle.laws.proofs.Choices.{true-false}
-use Rattle.meaning.specs.Hexadecimal.{nibble, allHex, inPairs, bytesOf, capital, written, raised, inCapitals}
-use Rattle.hexadecimal.proofs.Characters.{decimal, upper, lower, other}
+use Rattle.meaning.specs.Hexadecimal.{between, nibble, allHex, inPairs, bytesOf, capital, written, raised, inCapitals, hasSmall}
+use Rattle.hexadecimal.proofs.Characters.{outside, decimal, upper, lower, other}
 use Rattle.hexadecimal.proofs.Writing.{written-length}
 
 -- ---- one character
@@ -103,7 +105,7 @@ pub both-true : (p q : Bool) → p && q ≡ true → (p ≡ true) × (q ≡ true
 both-true true q e = (refl, e)
 both-true false q e = absurd (true-false (sym e))
 
-first-hex : (c : ℕ) (cs : List ℕ) → allHex (c ∷ cs) ≡ true → (nibble c < 16) × (allHex cs ≡ true)
+pub first-hex : (c : ℕ) (cs : List ℕ) → allHex (c ∷ cs) ≡ true → (nibble c < 16) × (allHex cs ≡ true)
 unfolding allHex
 first-hex c cs t = let b = both-true (ltb (nibble c) 16) (allHex cs) t in (ltb-true (nibble c) 16 (b .0), b .1)
 
@@ -140,3 +142,71 @@ module _ (line : List ℕ) (pairs : inPairs line ≡ true) where
   pub pairs-capitals : written (bytesOf line) ≡ inCapitals line
   unfolding inPairs
   pairs-capitals = written-bytes line pairs-hex (eqb-true _ 0 (both-true (allHex line) (eqb (length line % 2) 0) pairs .1))
+
+-- ---- a line in capitals
+-- a small letter, or any other character
+small? : (c : ℕ) → Dec ((97 ≤ c) × (c ≤ 102))
+small? c = go (decLe 97 c) (decLe c 102)
+  where
+    go : Dec (97 ≤ c) → Dec (c ≤ 102) → Dec ((97 ≤ c) × (c ≤ 102))
+    go (yes l) (yes h) = yes (l, h)
+    go (yes l) (no h) = no (λ b. h (b .1))
+    go (no l) h = no (λ b. l (b .0))
+
+module _ (c : ℕ) where
+  raised-other : between 97 102 c ≡ false → raised c ≡ c
+  unfolding raised
+  raised-other e = rw e
+
+  -- stands for the same in capitals
+  nibble-raised : nibble (raised c) ≡ nibble c
+  nibble-raised = go (small? c)
+    where
+      go : Dec ((97 ≤ c) × (c ≤ 102)) → nibble (raised c) ≡ nibble c
+      go (yes (l, h)) = ap nibble (raised-lower c l h) ∙ upper (c - 32) (omega arith) (omega arith) ∙ omega (arith, lower c l h)
+      go (no n) = ap nibble (raised-other (outside 97 102 c (λ l h. n (l, h))))
+
+  -- and is no small letter then
+  raised-large : between 97 102 (raised c) ≡ false
+  raised-large = go (small? c)
+    where
+      go : Dec ((97 ≤ c) × (c ≤ 102)) → between 97 102 (raised c) ≡ false
+      go (yes (l, h)) = rw (raised-lower c l h) (outside 97 102 (c - 32) (λ a b. omega arith))
+      go (no n) = let e = outside 97 102 c (λ l h. n (l, h)) in rw (raised-other e) e
+
+pub capitals-length : (line : List ℕ) → length (inCapitals line) ≡ length line
+unfolding inCapitals
+capitals-length [] = refl
+capitals-length (c ∷ cs) = ap suc (capitals-length cs)
+
+-- it is read alike
+pub capitals-hex : (line : List ℕ) → allHex (inCapitals line) ≡ allHex line
+unfolding inCapitals allHex
+capitals-hex [] = refl
+capitals-hex (c ∷ cs) = rw (nibble-raised c, capitals-hex cs)
+
+pub capitals-bytes : (line : List ℕ) → bytesOf (inCapitals line) ≡ bytesOf line
+unfolding inCapitals bytesOf
+capitals-bytes [] = refl
+capitals-bytes (a ∷ []) = refl
+capitals-bytes (a ∷ b ∷ cs) = rw (nibble-raised a, nibble-raised b, capitals-bytes cs)
+
+-- it has no small letter
+pub capitals-large : (line : List ℕ) → hasSmall (inCapitals line) ≡ false
+unfolding inCapitals hasSmall
+capitals-large [] = refl
+capitals-large (c ∷ cs) = rw (raised-large c, capitals-large cs)
+
+-- and a line without one is in capitals
+pub large-capitals : (line : List ℕ) → hasSmall line ≡ false → inCapitals line ≡ line
+unfolding inCapitals hasSmall
+large-capitals [] e = refl
+large-capitals (c ∷ cs) e = go (between 97 102 c) refl e (large-capitals cs)
+  where
+    go : (b : Bool) → between 97 102 c ≡ b → b || hasSmall cs ≡ false → (hasSmall cs ≡ false → inCapitals cs ≡ cs) → raised c ∷ inCapitals cs ≡ c ∷ cs
+    go true q e f = absurd (true-false e)
+    go false q e f = rw (raised-other c q, f e)
+
+-- so exactly a line with one is changed
+pub small-capitals : (line : List ℕ) → hasSmall line ≡ true → inCapitals line ≢ line
+small-capitals line e f = true-false (sym e ∙ ap hasSmall (sym f) ∙ capitals-large line)

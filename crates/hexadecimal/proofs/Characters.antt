@@ -15,10 +15,10 @@ use Rattle.laws.proofs.Choices.{either, and-both}
 use Rattle.meaning.specs.Hexadecimal.{between, nibble, allHex, bytesOf}
 
 -- ---- one character
-inside : (lo hi c : ℕ) → lo ≤ c → c ≤ hi → between lo hi c ≡ true
+pub inside : (lo hi c : ℕ) → lo ≤ c → c ≤ hi → between lo hi c ≡ true
 inside lo hi c l h = rw (le-leb lo c l, le-leb c hi h)
 
-outside : (lo hi c : ℕ) → (lo ≤ c → c ≤ hi → ⊥) → between lo hi c ≡ false
+pub outside : (lo hi c : ℕ) → (lo ≤ c → c ≤ hi → ⊥) → between lo hi c ≡ false
 outside lo hi c n = go (decLe lo c) (decLe c hi)
   where
     go : Dec (lo ≤ c) → Dec (c ≤ hi) → between lo hi c ≡ false

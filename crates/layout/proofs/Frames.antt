@@ -1,10 +1,10 @@
--- Lines of both versions: which are read without refusal; writing then reading gives the string back; and a line that is read without refusal is, in capitals, the one that is
+-- Lines of both versions: which are read without refusal, and how long they are; writing then reading gives the string back; and a line that is read without refusal is, in capitals, the one that is
 -- written for its string. Assumes nothing.
 use mathlib.Core.Path.{_≡_, refl, sym, ap, subst, _∙_}
 use mathlib.Core.Logic.{_≢_, inl, inr}
 use mathlib.Core.Bool.{Bool, true, false, cond, not, _&&_, _||_}
 use mathlib.Core.List.{List, [], _∷_, _++_}
-use Prim.Native.Nat.{ℕ, _+_, _-_, _%_, _<_, _≤_}
+use Prim.Native.Nat.{ℕ, _+_, _*_, _-_, _%_, _<_, _≤_}
 use native.Mathlib.Decide.{ℕ-discrete}
 use native.Mathlib.Omega.{arith}
 use lib.Dec.{T, leb, ltb, eqb}
@@ -38,13 +38,14 @@ use Rattle.meaning.specs.Frames.{
   Parsed,
   Read,
 }
+use Rattle.forms.proofs.Strings.{weight-le}
 use Rattle.forms.proofs.Refusals.{first-only, first-none}
 use Rattle.hexadecimal.proofs.Characters.{bytes-count}
 use Rattle.hexadecimal.proofs.Writing.{written-length}
-use Rattle.hexadecimal.proofs.Capitals.{both-true, bytes-written, pairs-written, pairs-bytes, pairs-capitals}
+use Rattle.hexadecimal.proofs.Capitals.{both-true, bytes-written, pairs-written, pairs-bytes, pairs-capitals, capitals-length}
 use Rattle.layout.specs.Wholes.{lineLength, WholeFrame}
 use Rattle.layout.proofs.Entries.{digits-length, entries-count, entry-bytes-length}
-use Rattle.layout.proofs.Bytes.{Fit, fit-of, unfit-not, Hold, frame-all, frame-hold, sparse-opens, plain-places, plain-digits, plain-order, sparse-again, plain-again}
+use Rattle.layout.proofs.Bytes.{Fit, fit-of, unfit-not, Hold, frame-all, frame-hold, sparse-opens, plain-places, plain-digits, plain-order, digits-places, sparse-again, plain-again}
 
 -- ---- tests
 not-T-false : (b : Bool) → (T b → ⊥) → b ≡ false
@@ -88,6 +89,7 @@ module _ (line : List ℕ) (places : ℕ) where
 -- ---- refused lines
 -- a refused line is one byte, which is the number that it states
 record States (line : List ℕ) : Type 0 where
+  pub pairs : inPairs line ≡ true
   pub one : length line ≡ 2
   pub most : stated line ≤ 16
   pub byte-is : stated line ≡ getD (bytesOf line) 0 0
@@ -111,7 +113,7 @@ states line n = go _ refl
         let z = both-true (between 1 16 b) (not (eqb b 6)) (y .1) in
         let w = both-true (leb 1 b) (leb b 16) (z .0) in
         let high : b ≤ 16 = leb-true b 16 (w .1) in
-        record { one = eqb-true (length line) 2 (y .0); most = rw is high; byte-is = is }
+        record { pairs = x .0; one = eqb-true (length line) 2 (y .0); most = rw is high; byte-is = is }
 
 stated-bytes : (line : List ℕ) → States line → bytesOf line ≡ stated line ∷ []
 stated-bytes line S = one (bytesOf line) (omega (arith, bytes-count line, S .one)) ∙ ap (λ b. b ∷ []) (sym (S .byte-is))
@@ -286,3 +288,28 @@ canonical version1 line f g =
     sym (pairs-capitals line (f .pairs)) ∙ ap written (sym (plain-again (bytesOf line) (pairs-bytes line (f .pairs)) (f .plain) (f .opens) (f .long) g))
 canonical version2 line f g =
     sym (pairs-capitals line (f .pairs)) ∙ ap written (sym (sparse-again (bytesOf line) (pairs-bytes line (f .pairs)) (f .sparse) (f .long) (f .whole) g))
+
+-- ---- a line that is read without refusal
+module _ (line : List ℕ) (places : ℕ) (g : Good line places) where
+  -- is hexadecimal pairs
+  pub good-pairs : inPairs line ≡ true
+  good-pairs = go (ℕ-discrete (stated line) 0)
+    where
+      go : Dec (stated line ≡ 0) → inPairs line ≡ true
+      go (yes z) = parts line (g .readable) z .pairs
+      go (no n) = states line n .pairs
+
+  -- and has at most the characters of 529 nonzero digits in version 2
+  pub good-length : length line ≤ 14 + 6 * mostPlaces
+  good-length = go (ℕ-discrete (stated line) 0) (isSparse (bytesOf line)) refl
+    where
+      ds : List ℤ
+      ds = digitsIn (bytesOf line)
+
+      few : length ds ≤ mostPlaces
+      few = omega (arith, digits-places (bytesOf line), g .short)
+
+      go : Dec (stated line ≡ 0) → (b : Bool) → isSparse (bytesOf line) ≡ b → length line ≤ 14 + 6 * mostPlaces
+      go (no n) b s = omega (arith, states line n .one)
+      go (yes z) true s = omega (arith, few, capitals-length line, ap length (canonical version2 line (sparse-frame line (g .readable) s) (g .fit)), line-length version2 ds, weight-le ds)
+      go (yes z) false s = omega (arith, few, capitals-length line, ap length (canonical version1 line (plain-frame line (g .readable) s z) (g .fit)), line-length version1 ds)

@@ -19,9 +19,10 @@ use Rattle.meaning.specs.Multiples.{makingOf, made, madeFrom, costDoubli
 use Rattle.meaning.specs.Taping.{moves, down, tapeOf}
 use Rattle.meaning.specs.Reading.{digit, done, readAt}
 use Rattle.meaning.specs.Lines.{linesOf}
-use Rattle.meaning.specs.Hexadecimal.{nibble, allHex, inPairs, bytesOf, written, raised, inCapitals}
-use Rattle.meaning.specs.Frames.{byteOf, digitBytes, digitOf, entriesFrom, entryBytes, entriesOf, rising, digitAt, version1, version2, lineOf, isSparse, digitsIn, stated, lacking, unreadable, inOrder, unfit}
+use Rattle.meaning.specs.Hexadecimal.{nibble, allHex, inPairs, bytesOf, written, raised, inCapitals, hasSmall}
+use Rattle.meaning.specs.Frames.{byteOf, digitBytes, digitOf, entriesFrom, entryBytes, entriesOf, rising, digitAt, version1, version2, lineOf, isSparse, placesIn, digitsIn, digitsOf, stated, lacking, unreadable, inOrder, unfit}
 use Rattle.meaning.specs.Requests.{malformed}
+use Rattle.meaning.specs.Salvage.{verdict, keptLine, keptLines, salvaged, dropped, caseOnly, remarks, reported, report, moved, numeral, told}
 
 -- 13 as 1 0 -1 0 1, on the nine places of a byte
 thirteen : List ℤ
@@ -206,3 +207,22 @@ cut-short = refl
 its-capitals : inCapitals (48 ∷ 100 ∷ []) ≡ 48 ∷ 68 ∷ []
 unfolding inCapitals raised
 its-capitals = refl
+
+-- a file of the lines `0a`, `zz` and one cut off after `0`: the first is kept in capitals, and the others are dropped
+its-salvage : salvaged (48 ∷ 97 ∷ 10 ∷ 122 ∷ 122 ∷ 10 ∷ 48 ∷ []) ≡ 48 ∷ 65 ∷ 10 ∷ []
+unfolding linesOf keptLines keptLine verdict unreadable stated inPairs allHex bytesOf nibble isSparse lacking placesIn unfit inOrder digitsIn digitsOf weight top inCapitals raised
+its-salvage = refl
+
+its-report : report (48 ∷ 97 ∷ 10 ∷ 122 ∷ 122 ∷ 10 ∷ 48 ∷ []) ≡ (1, caseOnly) ∷ (2, dropped 16) ∷ (3, dropped 16) ∷ []
+unfolding linesOf reported remarks verdict unreadable stated inPairs allHex bytesOf nibble isSparse lacking placesIn unfit inOrder digitsIn digitsOf weight top hasSmall
+its-report = refl
+
+-- the report's lines `1 case only` and `120 dropped 7`
+its-text : told ((1, caseOnly) ∷ (120, dropped 7) ∷ []) ≡ 49 ∷ 32 ∷ 99 ∷ 97 ∷ 115 ∷ 101 ∷ 32 ∷ 111 ∷ 110 ∷ 108 ∷ 121 ∷ 10 ∷ 49 ∷ 50 ∷ 48 ∷ 32 ∷ 100 ∷ 114 ∷ 111 ∷ 112 ∷ 112 ∷ 101 ∷ 100 ∷ 32 ∷ 55 ∷ 10 ∷ []
+unfolding told numeral
+its-text = refl
+
+-- two lines more before them
+its-moved : moved 2 ((1, caseOnly) ∷ (120, dropped 7) ∷ []) ≡ (3, caseOnly) ∷ (122, dropped 7) ∷ []
+unfolding moved
+its-moved = refl

@@ -1,6 +1,6 @@
 -- Bytes as pairs of hexadecimal characters: read in either case, written in capitals.
 -- Assumes nothing.
-use mathlib.Core.Bool.{Bool, true, cond, _&&_}
+use mathlib.Core.Bool.{Bool, true, false, cond, _&&_, _||_}
 use mathlib.Core.List.{List, [], _∷_}
 use Prim.Native.Nat.{ℕ, _+_, _-_, _*_, _/_, _%_}
 use lib.Dec.{leb, ltb, eqb}
@@ -53,3 +53,8 @@ raised c = cond (between 97 102 c) (c - 32) c
 unfoldable pub inCapitals : List ℕ → List ℕ
 inCapitals [] = []
 inCapitals (c ∷ cs) = raised c ∷ inCapitals cs
+
+-- a line holds a small letter
+unfoldable pub hasSmall : List ℕ → Bool
+hasSmall [] = false
+hasSmall (c ∷ cs) = between 97 102 c || hasSmall cs

@@ -21,3 +21,4 @@ pub mod Lines
 pub mod Hexadecimal
 pub mod Frames
 pub mod Requests
+pub mod Salvage

@@ -21,6 +21,7 @@ pub mod Marks
 pub mod Wnaf
 pub mod Instances
 pub mod Stream
+pub mod Salvage
 pub mod Exported
 pub mod Cost
 pub mod Wider
