@@ -352,30 +352,21 @@ static uint32_t plus(uint32_t x, uint32_t y, uint32_t modulus) {
     return (uint32_t)(sum >= modulus ? sum - modulus : sum);
 }
 
-sarvundole_ran baseline_run(uint8_t width, const uint16_t *tape, size_t words, uint32_t modulus, uint32_t base, uint32_t *multiples,
-                            size_t room) {
-    sarvundole_ran r = {0, 0, 0, 0, 0, {0, 0}};
-    const size_t entries = bad_width(width) ? 0 : (size_t)1 << (width - 2);
-    if (!entries) r.refusal = 2;
-    else if (!modulus) r.refusal = 12;
-    else if (words > SARVUNDOLE_MOST_WORDS) r.refusal = 13;
-    else if (room < entries) r.refusal = 14;
-    if (r.refusal) return r;
+/* The first word that is not good where there are so many entries, or the count of words. */
+static size_t first_bad(const uint16_t *tape, size_t words, size_t entries) {
     for (size_t i = 0; i < words; i++) {
         unsigned code = tape[i] >> 12, entry = tape[i] & 0xFFF, load = code == 1 || code == 2;
-        if (code > 4 || entry >= entries || (!code && entry) || load != (i == 0)) {
-            r.refusal = 15;
-            r.place = (uint16_t)i;
-            return r;
-        }
+        if (code > 4 || entry >= entries || (!code && entry) || load != (i == 0)) return i;
     }
-    uint32_t multiple = base % modulus, twice = plus(multiple, multiple, modulus), value = 0;
-    for (size_t e = 0; e < entries; e++) {
-        multiples[e] = multiple;
-        multiple = plus(multiple, twice, modulus);
-    }
+    return words;
+}
+
+/* The steps of a tape over stored entries. */
+static sarvundole_ran reach(const uint16_t *tape, size_t words, uint32_t modulus, const uint32_t *entries) {
+    sarvundole_ran r = {0, 0, 0, 0, 0, {0, 0}};
+    uint32_t value = 0;
     for (size_t i = 0; i < words; i++) {
-        uint32_t m = multiples[tape[i] & 0xFFF];
+        uint32_t m = entries[tape[i] & 0xFFF];
         switch (tape[i] >> 12) {
         case 0: value = plus(value, value, modulus); r.doublings++; break;
         case 1: value = m; break;
@@ -385,8 +376,131 @@ sarvundole_ran baseline_run(uint8_t width, const uint16_t *tape, size_t words, u
         }
     }
     r.residue = value;
+    return r;
+}
+
+sarvundole_ran baseline_run(uint8_t width, const uint16_t *tape, size_t words, uint32_t modulus, uint32_t base, uint32_t *multiples,
+                            size_t room) {
+    sarvundole_ran r = {0, 0, 0, 0, 0, {0, 0}};
+    const size_t entries = bad_width(width) ? 0 : (size_t)1 << (width - 2);
+    if (!entries) r.refusal = 2;
+    else if (!modulus) r.refusal = 12;
+    else if (words > SARVUNDOLE_MOST_WORDS) r.refusal = 13;
+    else if (room < entries) r.refusal = 14;
+    if (r.refusal) return r;
+    size_t bad = first_bad(tape, words, entries);
+    if (bad < words) {
+        r.refusal = 15;
+        r.place = (uint16_t)bad;
+        return r;
+    }
+    uint32_t multiple = base % modulus, twice = plus(multiple, multiple, modulus);
+    for (size_t e = 0; e < entries; e++) {
+        multiples[e] = multiple;
+        multiple = plus(multiple, twice, modulus);
+    }
+    r = reach(tape, words, modulus, multiples);
     r.cost.doublings = entries > 1;
     r.cost.additions = (uint16_t)(entries - 1);
+    return r;
+}
+
+/* ---- two scalars together */
+/* Solinas's digit of a number that is r modulo 8 beside one that is s: 0 where r is even, else its signed residue modulo 4, turned where r is 3 or 5 and s is 2 modulo 4.
+ * Looked up in a constant of two bits an entry, since the residues are as good as random. */
+static int solinas(unsigned r, unsigned s) {
+    unsigned beside_two = s >> 1 & ~s & 1;
+    return (int)(295246105u >> (2 * r + 16 * beside_two) & 3) - 1;
+}
+
+/* The two digits of a place, from what remains there, and the carries that go on. */
+typedef struct {
+    int first, second;
+    unsigned carry, other;
+} column;
+
+static column column_at(uint8_t order, const uint8_t *a, const uint8_t *b, size_t bytes, size_t i, unsigned carry, unsigned other) {
+    unsigned x = bits_at(order, a, bytes, i, 3), y = bits_at(order, b, bytes, i, 3);
+    int u = solinas((x + carry) & 7, (y + other) & 7), v = solinas((y + other) & 7, (x + carry) & 7);
+    return (column){u, v, (unsigned)((int)((x & 1) + carry) - u) / 2, (unsigned)((int)((y & 1) + other) - v) / 2};
+}
+
+/* A column as the digit whose entry and sign it has: 1, 3, 5 and 7 for g, h, g + h and g - h. */
+static int column_digit(int u, int v) {
+    static const int8_t digits[9] = {-5, -1, -7, -3, 0, 3, 7, 1, 5};
+    return digits[3 * u + v + 4];
+}
+
+sarvundole_joined baseline_joint(uint8_t order, const uint8_t *a, size_t a_bytes, const uint8_t *b, size_t b_bytes, int8_t *first, size_t first_places, int8_t *second,
+                                 size_t second_places, uint16_t *words, size_t room) {
+    sarvundole_joined j = {0, 0, 0, 0, 0, 0, 0};
+    const size_t places = 8 * a_bytes + 1;
+    if (a_bytes > SARVUNDOLE_MOST_BYTES || b_bytes > SARVUNDOLE_MOST_BYTES) j.refusal = 3;
+    else if (a_bytes != b_bytes) j.refusal = 18;
+    else if (first_places < places || second_places < places) j.refusal = 4;
+    if (j.refusal) return j;
+    size_t weight = 0, top = 0;
+    column c = {0, 0, 0, 0};
+    for (size_t i = 0; i < places; i++) {
+        c = column_at(order, a, b, a_bytes, i, c.carry, c.other);
+        unsigned full = (unsigned)(c.first | c.second) & 1;
+        weight += full;
+        top = full ? i + 1 : top;
+    }
+    const size_t needed = top ? top - 1 + weight : 0;
+    if (room < needed) {
+        j.refusal = 11;
+        return j;
+    }
+    c = (column){0, 0, 0, 0};
+    for (size_t i = 0; i < places; i++) {
+        c = column_at(order, a, b, a_bytes, i, c.carry, c.other);
+        first[i] = (int8_t)c.first;
+        second[i] = (int8_t)c.second;
+    }
+    if (!top) return j;
+    size_t k = top - 1, at = 1;
+    words[0] = word(1, column_digit(first[k], second[k]));
+    /* as in tape */
+    while (k > 1) {
+        k--;
+        int digit = column_digit(first[k], second[k]);
+        words[at] = 0;
+        words[at + 1] = word(3, digit);
+        at += 1 + (-(unsigned)(uint8_t)digit >> 31);
+    }
+    if (k > 0) {
+        int digit = column_digit(first[0], second[0]);
+        words[at] = 0;
+        if (digit) words[at + 1] = word(3, digit);
+    }
+    j.columns = (uint16_t)weight;
+    j.top = (uint16_t)top;
+    j.words = (uint16_t)needed;
+    j.doublings = (uint16_t)(top - 1);
+    j.additions = (uint16_t)(weight - 1);
+    return j;
+}
+
+sarvundole_ran baseline_run_joint(const uint16_t *tape, size_t words, uint32_t modulus, uint32_t first, uint32_t second, uint32_t *entries, size_t room) {
+    sarvundole_ran r = {0, 0, 0, 0, 0, {0, 0}};
+    if (!modulus) r.refusal = 12;
+    else if (words > SARVUNDOLE_MOST_WORDS) r.refusal = 13;
+    else if (room < SARVUNDOLE_JOINT_ENTRIES) r.refusal = 14;
+    if (r.refusal) return r;
+    size_t bad = first_bad(tape, words, SARVUNDOLE_JOINT_ENTRIES);
+    if (bad < words) {
+        r.refusal = 15;
+        r.place = (uint16_t)bad;
+        return r;
+    }
+    const uint32_t g = first % modulus, h = second % modulus;
+    entries[0] = g;
+    entries[1] = h;
+    entries[2] = plus(g, h, modulus);
+    entries[3] = plus(g, modulus - h, modulus);
+    r = reach(tape, words, modulus, entries);
+    r.cost.additions = 2;
     return r;
 }
 

@@ -13,6 +13,9 @@ sarvundole_tally baseline_check_nonadjacent(uint8_t width, uint8_t order, const 
 sarvundole_taped baseline_tape(uint8_t width, const int8_t *digits, size_t places, uint16_t *words, size_t room);
 sarvundole_ran baseline_run(uint8_t width, const uint16_t *tape, size_t words, uint32_t modulus, uint32_t base, uint32_t *multiples,
                             size_t room);
+sarvundole_joined baseline_joint(uint8_t order, const uint8_t *a, size_t a_bytes, const uint8_t *b, size_t b_bytes, int8_t *first, size_t first_places, int8_t *second,
+                                 size_t second_places, uint16_t *words, size_t room);
+sarvundole_ran baseline_run_joint(const uint16_t *tape, size_t words, uint32_t modulus, uint32_t first, uint32_t second, uint32_t *entries, size_t room);
 sarvundole_reader baseline_reader_start(uint8_t width, uint8_t order, const uint8_t *scalar, size_t bytes);
 sarvundole_stepped baseline_reader_next(const uint8_t *scalar, size_t bytes, sarvundole_reader reader);
 sarvundole_reading baseline_read_at(uint8_t width, uint8_t order, const uint8_t *scalar, size_t bytes, uint16_t calls);

@@ -17,18 +17,19 @@ enum { INPUTS = 512, COUNTED = 128, TURNS = 101, AGREED = 20000, ROOM_PLACES = 6
 /* One call's input and the memory that it is lent. */
 typedef struct {
     uint8_t form, width, order;
-    uint8_t scalar[80], group[80];
-    size_t bytes, group_bytes, places, words, room, marks_room, multiples_room, line_room, characters;
-    uint32_t modulus, base;
+    uint8_t scalar[80], other[80], group[80];
+    size_t bytes, other_bytes, group_bytes, places, other_places, words, room, marks_room, multiples_room, line_room, characters;
+    uint32_t modulus, base, second;
     uint16_t calls;
     sarvundole_reader reader;
     int8_t digits[ROOM_PLACES];
-    uint16_t tape[ROOM_WORDS];
+    uint16_t tape[ROOM_WORDS], joint[ROOM_WORDS];
+    size_t joint_words;
     uint8_t line[ROOM_LINE];
 } input;
 
 typedef struct {
-    int8_t digits[ROOM_PLACES];
+    int8_t digits[ROOM_PLACES], second[ROOM_PLACES];
     uint64_t marks[ROOM_MARKS];
     uint16_t words[ROOM_WORDS];
     uint32_t multiples[ROOM_MULTIPLES];
@@ -66,11 +67,24 @@ static void tape(const input *in, output *out, int library) {
     out->fields[0] = t.refusal, out->fields[1] = t.place, out->fields[2] = t.words, out->fields[3] = t.doublings, out->fields[4] = t.additions;
 }
 
-static void run(const input *in, output *out, int library) {
-    sarvundole_ran r = (library ? sarvundole_run : baseline_run)(in->width, in->tape, in->words, in->modulus, in->base, out->multiples,
-                                                                 in->multiples_room);
+static void ran(output *out, sarvundole_ran r) {
     out->fields[0] = r.refusal, out->fields[1] = r.place, out->fields[2] = r.residue;
     out->fields[3] = r.doublings, out->fields[4] = r.additions, out->fields[5] = r.cost.doublings, out->fields[6] = r.cost.additions;
+}
+
+static void run(const input *in, output *out, int library) {
+    ran(out, (library ? sarvundole_run : baseline_run)(in->width, in->tape, in->words, in->modulus, in->base, out->multiples, in->multiples_room));
+}
+
+static void joint(const input *in, output *out, int library) {
+    sarvundole_joined j = (library ? sarvundole_joint : baseline_joint)(in->order, in->scalar, in->bytes, in->other, in->other_bytes, out->digits, in->places, out->second,
+                                                                        in->other_places, out->words, in->room);
+    out->fields[0] = j.refusal, out->fields[1] = j.place, out->fields[2] = j.columns, out->fields[3] = j.top;
+    out->fields[4] = j.words, out->fields[5] = j.doublings, out->fields[6] = j.additions;
+}
+
+static void run_joint(const input *in, output *out, int library) {
+    ran(out, (library ? sarvundole_run_joint : baseline_run_joint)(in->joint, in->joint_words, in->modulus, in->base, in->second, out->multiples, in->multiples_room));
 }
 
 static void read_at(const input *in, output *out, int library) {
@@ -134,7 +148,7 @@ static uint32_t chance(uint32_t below) {
 
 static uint32_t any32(void) { return chance(65536) << 16 | chance(65536); }
 
-/* An input that the calls accept: a random scalar below an order of bytes FF, its string in a form, and that string's tape. */
+/* An input that the calls accept: a random scalar below an order of bytes FF, its string in a form, and that string's tape; another scalar, and the tape of both. */
 static void accepted(input *in, uint8_t form, uint8_t width, uint8_t order, size_t bytes) {
     uint64_t marks[SARVUNDOLE_MARK_WORDS];
     memset(in, 0, sizeof *in);
@@ -146,6 +160,10 @@ static void accepted(input *in, uint8_t form, uint8_t width, uint8_t order, size
     baseline_recode(form, width, order, in->scalar, bytes, in->digits, in->places, marks, SARVUNDOLE_MARK_WORDS);
     in->words = baseline_tape(width, in->digits, in->places, in->tape, ROOM_WORDS).words;
     in->line_room = ROOM_LINE;
+    for (size_t i = 0; i < bytes; i++) in->other[i] = (uint8_t)chance(256);
+    in->other_bytes = bytes, in->other_places = in->places, in->second = any32();
+    int8_t first[SARVUNDOLE_MOST_PLACES], second[SARVUNDOLE_MOST_PLACES];
+    in->joint_words = baseline_joint(order, in->scalar, bytes, in->other, bytes, first, in->places, second, in->places, in->joint, ROOM_WORDS).words;
 }
 
 /* The line of the input's string. */
@@ -170,7 +188,7 @@ static void any(input *in) {
     in->reader = (sarvundole_reader){(uint16_t)chance(600), (uint16_t)chance(600), (uint16_t)chance(600), (uint8_t)chance(11), (int8_t)chance(256), 0, (uint8_t)chance(3)};
     if (!chance(8)) in->reader.place = (uint16_t)chance(65536), in->reader.floor = (uint16_t)chance(65536), in->reader.refusal = (uint8_t)chance(256);
     if (!chance(2)) near(in);
-    switch (chance(16)) {
+    switch (chance(20)) {
     case 0: in->form = (uint8_t)chance(256); break;
     case 1: in->width = (uint8_t)chance(11); break;
     case 2: in->bytes = chance(80); break;
@@ -184,6 +202,9 @@ static void any(input *in) {
     case 10: in->multiples_room = chance(ROOM_MULTIPLES); break;
     case 11: in->tape[chance((uint32_t)in->words + 1)] = (uint16_t)chance(65536); break;
     case 12: in->line_room = chance(ROOM_LINE); break;
+    case 13: in->other_bytes = chance(80); break;
+    case 14: in->other_places = chance(ROOM_PLACES); break;
+    case 15: in->joint[chance((uint32_t)in->joint_words + 1)] = (uint16_t)chance(65536); break;
     default: break;
     }
     framed(in, (uint8_t)(1 + chance(2)));
@@ -316,6 +337,9 @@ int main(int words, char **given) {
         {"recode_below MOF", recode_below, 1, 0, {2}},
         {"recode_below wNAF", recode_below, 2, 0, {4, 8}},
         {"recode_below wMOF", recode_below, 3, 0, {4, 8}},
+        {"joint", joint, 2, 0, {2}},
+        {"run_joint", run_joint, 2, 0, {2}},
+        {"joint, lowest first", joint, 2, 1, {2}},
         {"recode MOF, lowest first", recode, 1, 1, {2}},
         {"recode wNAF, lowest first", recode, 2, 1, {4, 8}},
         {"recode wMOF, lowest first", recode, 3, 1, {4, 8}},

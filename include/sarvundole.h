@@ -1,5 +1,5 @@
 /* Sarvundole: recodes a public check number to signed digits, checks digits made elsewhere, makes a step tape of a string and runs
- * a tape over residues; writes a string as a line of hexadecimal and reads such a line. C99 and C++.
+ * a tape over residues; does both for two scalars together; writes a string as a line of hexadecimal and reads such a line. C99 and C++.
  *
  * Scalars come as bytes, 0 to 66 of them, in either order: each call on a scalar is told which byte comes first, 0 for the highest, anything
  * else for the lowest. L bytes have n = 8L bits. A width w is 2 to 8. The digits of width w are 0 and
@@ -48,7 +48,7 @@ enum sarvundole_form {
     SARVUNDOLE_CLOSEST_SMALLER = 5 /* the same, on a tie the one of smaller absolute value */
 };
 
-/* The refusals. 6 was struck, since n + 1 places always suffice, and is not used again; 17, 18, 22 and 23 no call gives. */
+/* The refusals. 6 was struck, since n + 1 places always suffice, and is not used again; 17, 22 and 23 no call gives. */
 enum sarvundole_refusal {
     SARVUNDOLE_ACCEPTED = 0,
     SARVUNDOLE_BAD_FORM = 1,         /* form is not 1..5 */
@@ -63,9 +63,10 @@ enum sarvundole_refusal {
     SARVUNDOLE_SHORT_TAPE = 11,      /* tape buffer too short for all its words */
     SARVUNDOLE_ZERO_MODULUS = 12,    /* modulus 0 */
     SARVUNDOLE_LONG_TAPE = 13,       /* tape over 1,057 words */
-    SARVUNDOLE_FEW_MULTIPLES = 14,   /* multiples buffer under 2^(w-2) entries */
+    SARVUNDOLE_FEW_MULTIPLES = 14,   /* multiples buffer under 2^(w-2) entries; in run_joint, under 4 */
     SARVUNDOLE_BAD_WORD = 15,        /* a bad word; place is the first such */
     SARVUNDOLE_MALFORMED = 16,       /* line not all hexadecimal, not opening with 00 or A2, or lacking a field or part of one */
+    SARVUNDOLE_UNEQUAL_SCALARS = 18, /* scalars of unequal lengths */
     SARVUNDOLE_BAD_GROUP = 19,       /* group order empty, worth zero or over 66 bytes */
     SARVUNDOLE_NOT_BELOW = 20,       /* scalar not below the group order, as numbers */
     SARVUNDOLE_UNFIT_FRAME = 21,     /* places not rising, a zero digit, a place not below the count, or weight or top that does not fit */
@@ -91,6 +92,7 @@ static inline const char *sarvundole_refusal_words(unsigned refusal) {
     case SARVUNDOLE_FEW_MULTIPLES: return "the multiples buffer is too short";
     case SARVUNDOLE_BAD_WORD: return "a word of the tape is bad";
     case SARVUNDOLE_MALFORMED: return "the line is malformed";
+    case SARVUNDOLE_UNEQUAL_SCALARS: return "the two scalars are not equally long";
     case SARVUNDOLE_BAD_GROUP: return "the group order is empty, worth zero or over 66 bytes";
     case SARVUNDOLE_NOT_BELOW: return "the scalar is not below the group order";
     case SARVUNDOLE_UNFIT_FRAME: return "the parts of the frame do not fit together";
@@ -108,6 +110,7 @@ static inline const char *sarvundole_refusal_words(unsigned refusal) {
 #define SARVUNDOLE_MARK_WORDS 9
 #define SARVUNDOLE_MOST_WORDS 1057
 #define SARVUNDOLE_MOST_MULTIPLES 64
+#define SARVUNDOLE_JOINT_ENTRIES 4
 #define SARVUNDOLE_MOST_PLAIN_LINE 1068  /* characters of version 1 */
 #define SARVUNDOLE_MOST_LINE 3188        /* characters of either version */
 
@@ -135,7 +138,7 @@ typedef struct sarvundole_cost {
     uint16_t additions;
 } sarvundole_cost;
 
-/* What run answers: the residue reached, the doublings and additions done, and the cost of the multiples, which those two leave out. */
+/* What run and run_joint answer: the residue reached, the doublings and additions done, and the cost of the multiples, which those two leave out. */
 typedef struct sarvundole_ran {
     uint8_t refusal;
     uint16_t place;
@@ -144,6 +147,18 @@ typedef struct sarvundole_ran {
     uint16_t additions;
     sarvundole_cost cost;
 } sarvundole_ran;
+
+/* What joint answers: the nonzero columns, the top (1 + the highest nonzero column's place, 0 if none), the words written, the doublings (top - 1, or 0) and the
+ * additions (columns - 1, or 0; subtracts included). */
+typedef struct sarvundole_joined {
+    uint8_t refusal;
+    uint16_t place;
+    uint16_t columns;
+    uint16_t top;
+    uint16_t words;
+    uint16_t doublings;
+    uint16_t additions;
+} sarvundole_joined;
 
 /* What read_at answers: `given` is 1 and `digit` the digit, or `given` is 0 where the reader is done. */
 typedef struct sarvundole_reading {
@@ -224,6 +239,21 @@ sarvundole_taped sarvundole_tape(uint8_t width, const int8_t *digits, size_t pla
  * tape gives 0. Lent: the tape; for writing, at least 2^(w-2) multiples. Refusals: 2, 12, 13, 14, 15. */
 sarvundole_ran sarvundole_run(uint8_t width, const uint16_t *tape, size_t words, uint32_t modulus, uint32_t base, uint32_t *multiples,
                               size_t room);
+
+/* Writes the joint sparse form of two scalars of equal length, told in one order of bytes: two rows of digits -1, 0, 1, n + 1 places each, the first worth a, the
+ * second worth b, with the fewest nonzero columns of all such pairs of rows. Writes its tape too, in the words of sarvundole_tape over the entries 0 to 3, which
+ * stand for g, h, g + h and g - h: a column (1, 0), (0, 1), (1, 1) or (1, -1) has entry 0, 1, 2 or 3, and its negative the same by load negated or subtract. All
+ * room is judged before a digit is written. Lent: the scalars; for writing, at least n + 1 places for each row, and room for all the words, of which there are at
+ * most SARVUNDOLE_MOST_WORDS. Refusals, tried in this order: 3 (either scalar), 18, 4 (either row), 11. */
+sarvundole_joined sarvundole_joint(uint8_t order, const uint8_t *a, size_t a_bytes, const uint8_t *b, size_t b_bytes, int8_t *first,
+                                   size_t first_places, int8_t *second, size_t second_places, uint16_t *words, size_t room);
+
+/* Runs a tape over residues with two bases g and h, `first` and `second`. All its words are judged before an entry is stored; then g, h, g + h and g - h mod modulus
+ * are stored, for an empty tape too. The residue is the least nonnegative one of A * g + B * h, where A and B are how often the words take g and h; the tape of
+ * sarvundole_joint gives a * g + b * h. An empty tape gives 0. The cost is two additions and no doubling. Lent: the tape; for writing, at least 4 entries.
+ * Refusals: 12, 13, 14, 15. */
+sarvundole_ran sarvundole_run_joint(const uint16_t *tape, size_t words, uint32_t modulus, uint32_t first, uint32_t second, uint32_t *entries,
+                                    size_t room);
 
 /* Starts a reader, which gives wMOF one digit a call, places n down to 0, then says done at every later call. Started from refused input,
  * it holds the number and is done at once. Lent: the scalar. Refusals: 2, 3. */

@@ -29,7 +29,7 @@ typedef struct {
     int reading;
 } memory;
 
-static memory scalars, groups, strings, tapes, lines, digits, marks, words, multiples, written;
+static memory scalars, others, groups, strings, tapes, lines, digits, seconds, marks, words, multiples, written;
 
 static void protect(const memory *m, int how) {
     if (mprotect(m->start, page, how)) abort();
@@ -154,19 +154,50 @@ static void tape(int at_end) {
     put_lent(&words, 2);
 }
 
-static void run(int at_end) {
-    uint8_t width = (uint8_t)take(1);
-    size_t room = take(2);
-    uint32_t modulus = take(4), base = take(4);
+/* The words to the end of the line, lent. */
+static const uint16_t *lend_words(size_t count, int at_end) {
     uint16_t given[MOST_LINE / 4];
-    size_t count = left / 2;
     for (size_t i = 0; i < count; i++) given[i] = (uint16_t)take(2);
-    uint32_t *m = lend_to_write(&multiples, room, 4, 0xDEADBEEF, at_end);
-    sarvundole_ran r = sarvundole_run(width, lend(&tapes, 2 * count, at_end, given), count, modulus, base, m, room);
+    return lend(&tapes, 2 * count, at_end, given);
+}
+
+static void put_ran(sarvundole_ran r) {
     put(r.refusal, 1), put(r.place, 2), put(r.residue, 4), put(r.doublings, 2), put(r.additions, 2);
     put(r.cost.additions, 2), put(r.cost.doublings, 2);
     given_back(&tapes);
     put_lent(&multiples, 4);
+}
+
+static void run(int at_end) {
+    uint8_t width = (uint8_t)take(1);
+    size_t room = take(2);
+    uint32_t modulus = take(4), base = take(4);
+    size_t count = left / 2;
+    uint32_t *m = lend_to_write(&multiples, room, 4, 0xDEADBEEF, at_end);
+    put_ran(sarvundole_run(width, lend_words(count, at_end), count, modulus, base, m, room));
+}
+
+static void joint(int at_end) {
+    size_t places = take(2), other_places = take(2), room = take(2), bytes = take(1), other_bytes = left - bytes;
+    int8_t *u = lend_to_write(&digits, places, 1, 0x5A, at_end), *v = lend_to_write(&seconds, other_places, 1, 0x5A, at_end);
+    uint16_t *w = lend_to_write(&words, room, 2, 0xEEEE, at_end);
+    const uint8_t *a = lend(&scalars, bytes, at_end, frame), *b = lend(&others, other_bytes, at_end, frame + bytes);
+    sarvundole_joined j = sarvundole_joint(order, a, bytes, b, other_bytes, u, places, v, other_places, w, room);
+    if (j.words != (j.words == 0 ? 0 : j.doublings + j.additions + 1)) refuse("a pair's tape has not top - 1 + columns words");
+    put(j.refusal, 1), put(j.place, 2), put(j.columns, 2), put(j.top, 2), put(j.words, 2), put(j.doublings, 2), put(j.additions, 2);
+    given_back(&scalars);
+    given_back(&others);
+    put_lent(&digits, 1);
+    put_lent(&seconds, 1);
+    put_lent(&words, 2);
+}
+
+static void run_joint(int at_end) {
+    size_t room = take(2);
+    uint32_t modulus = take(4), g = take(4), h = take(4);
+    size_t count = left / 2;
+    uint32_t *m = lend_to_write(&multiples, room, 4, 0xDEADBEEF, at_end);
+    put_ran(sarvundole_run_joint(lend_words(count, at_end), count, modulus, g, h, m, room));
 }
 
 /* The digits one after another, each held to what a caller gets that keeps no reader. */
@@ -218,7 +249,7 @@ static void worded(void) {
     const char *const none = sarvundole_refusal_words(6);
     for (unsigned a = 0; a < 300; a++) {
         const char *words = sarvundole_refusal_words(a);
-        const int given = (a != 6 && a <= SARVUNDOLE_MALFORMED) || a == SARVUNDOLE_BAD_GROUP || a == SARVUNDOLE_NOT_BELOW || a == SARVUNDOLE_UNFIT_FRAME || a == SARVUNDOLE_SHORT_LINE;
+        const int given = (a != 6 && a <= SARVUNDOLE_MALFORMED) || a == SARVUNDOLE_UNEQUAL_SCALARS || a == SARVUNDOLE_BAD_GROUP || a == SARVUNDOLE_NOT_BELOW || a == SARVUNDOLE_UNFIT_FRAME || a == SARVUNDOLE_SHORT_LINE;
         if ((strcmp(words, none) == 0) == given) refuse("a refusal has no words, or a number that is none has");
         for (unsigned b = 0; b < a && given; b++)
             if (strcmp(words, sarvundole_refusal_words(b)) == 0) refuse("two refusals have the same words");
@@ -275,6 +306,8 @@ static void call(const uint8_t *data, size_t bytes, int at_end) {
     case 5: run(at_end); break;
     case 6: read_all(at_end); break;
     case 7: search(); break;
+    case 9: joint(at_end); break;
+    case 10: run_joint(at_end); break;
     case 11: recode_below(at_end); break;
     case 14: write_line(at_end); break;
     case 15: read_line(at_end); break;
@@ -286,7 +319,7 @@ int main(void) {
     static char line[MOST_LINE];
     static uint8_t data[MOST_LINE / 2], before[MOST_ANSWER];
     page = (size_t)sysconf(_SC_PAGESIZE);
-    memory *const all[] = {&scalars, &groups, &strings, &tapes, &lines, &digits, &marks, &words, &multiples, &written};
+    memory *const all[] = {&scalars, &others, &groups, &strings, &tapes, &lines, &digits, &seconds, &marks, &words, &multiples, &written};
     for (size_t i = 0; i < sizeof all / sizeof *all; i++) make(all[i]);
     made_up_all();
     worded();

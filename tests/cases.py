@@ -58,6 +58,23 @@ def run(width, lent, modulus, base, words):
     return hexadecimal(bytes([5, width]) + numbers + second.big_endian(words, 2))
 
 
+def joint(places, others, lent, a, b):
+    numbers = b"".join(n.to_bytes(2, "big") for n in (places, others, lent))
+    return hexadecimal(bytes([9]) + numbers + bytes([len(a)]) + a + b)
+
+
+def joint_fitting(a, b):
+    """Room for exactly what is written, as far as the program has it."""
+    places = min(8 * len(a) + 1, 600)
+    room = second.joint(a, b, [0] * places, [0] * places, [0] * MOST_WORDS)[0][4]
+    return joint(places, places, room, a, b)
+
+
+def run_joint(lent, modulus, g, h, words):
+    numbers = lent.to_bytes(2, "big") + b"".join(n.to_bytes(4, "big") for n in (modulus, g, h))
+    return hexadecimal(bytes([10]) + numbers + second.big_endian(words, 2))
+
+
 def reader(width, calls, scalar):
     return hexadecimal(bytes([6, width]) + calls.to_bytes(2, "big") + scalar)
 
@@ -151,6 +168,12 @@ WORTH = [
     ("002, section 4.2", 379, 3, "0 0 3 0 0 0 0 -1 0 -1"),
 ]
 
+# Joint sparse forms that document 001 prints, without its overlines: the arithmetic decides the signs.
+PRINTED_PAIRS = [
+    (57, 22, "1 0 0 -1 0 0 1", "0 1 0 -1 0 -1 0"),
+    (6699, 4846, "1 1 0 1 0 0 1 0 -1 -1 0 1 1", "1 0 0 1 1 0 0 0 -1 0 0 -1 0"),
+]
+
 # 000's table 3, width 3: s, u, k. The paper leaves out the u of s = 8, which is -1.
 PRINTED_WINDOWS = [(4, 1, 1), (5, 3, 0), (6, 3, 0), (7, 1, 2), (8, -1, 2), (9, -3, 0), (10, -3, 0), (11, -1, 1)]
 
@@ -189,6 +212,8 @@ def check_printed():
         assert second.tape_of(second.form_digits(WNAF, width, scalar)) == words
         (_, _, reached, *_), stored = second.run(width, words, modulus, base, [0] * len(multiples))
         assert (reached, stored) == (residue, multiples)
+    for a, b, first, other in PRINTED_PAIRS:
+        assert second.joint_rows(a, b, len(from_top(first)) - 1) == (from_top(first), from_top(other))
     for s, u, k in PRINTED_WINDOWS:
         assert second.odd_part(second.window(3, s)) == (u, k)
     assert second.recode_answer(b"0202010D") == b"00000300050100FF000100000000"
@@ -390,6 +415,30 @@ def run_faults():
         width = (9 if 14 in faults else 1) if 2 in faults else 3
         room = (2 if width == 3 else 80) - (1 if 14 in faults else 0)
         yield run(width, room, 0 if 12 in faults else 10, 9, words)
+
+
+def joint_faults():
+    for faults in subsets((3, 18, 4, 11)):
+        for side in (0, 1):  # which of two is at fault
+            lengths = [2, 3 if 18 in faults else 2]
+            if 3 in faults:
+                lengths[side] = 67
+            if 18 not in faults and 3 in faults:
+                lengths = [67, 67]
+            a, b = (bytes(range(1, n + 1)) for n in (lengths if side == 0 else lengths[::-1]))
+            rooms = [min(8 * len(a) + 1, 600)] * 2
+            if 4 in faults:
+                rooms[side] -= 1
+            words = 30 if len(a) != len(b) or len(a) > 66 else len(second.joint_tape(list(zip(*second.joint_rows(second.number(a), second.number(b), 8 * len(a))))))
+            yield joint(*rooms, words - (1 if 11 in faults else 0), a, b)
+
+
+def run_joint_faults():
+    for faults in subsets((12, 13, 14, 15)):
+        words = [0x1003, 0x0000, 0x0000, 0x3004 if 15 in faults else 0x0000, 0x4002, 0x0000]
+        if 13 in faults:
+            words += [0x0000] * (MOST_WORDS + 1 - len(words))
+        yield run_joint(3 if 14 in faults else 4, 0 if 12 in faults else 10, 9, 8, words)
 
 
 def frame_faults():
@@ -610,6 +659,50 @@ def run_every_word():
             yield run(width, limit, 1009, 123, [0x2000, 0x0000, 0x3000, x])
 
 
+def joint_edges():
+    """Document 001's pairs, every byte beside several, all lengths, and rooms one too few and more."""
+    for a, b, _, _ in PRINTED_PAIRS:
+        for size in (2, 3, 66):
+            yield joint_fitting(a.to_bytes(size, "big"), b.to_bytes(size, "big"))
+            yield joint_fitting(b.to_bytes(size, "big"), a.to_bytes(size, "big"))
+            yield lowest_first(joint_fitting(a.to_bytes(size, "little"), b.to_bytes(size, "little")))
+            yield lowest_first(joint(529, 529, 1057, a.to_bytes(size, "little"), b.to_bytes(size, "little")))
+    for n in range(256):
+        for other in (0, 1, 2, 3, 22, 85, 170, 255, n):
+            yield joint_fitting(bytes([n]), bytes([other]))
+    for length in (0, 1, 2, 7, 8, 9, 33, 65, 66, 67, 80):
+        for a, b in itertools.product((b"\x00", b"\x01", b"\xff", b"\xaa", b"\x55", b"\xdb", b"\x6d"), repeat=2):
+            yield joint_fitting(a * length, b * length)
+    for a, b in ((b"", b""), (b"\x00", b"\x00"), (b"\x39", b"\x16"), (b"\x1a\x2b", b"\x12\xee"), (b"\xdb" * 66, b"\x6d" * 66)):
+        need = second.joint(a, b, [0] * 529, [0] * 529, [0] * MOST_WORDS)[0][4]
+        places = 8 * len(a) + 1
+        for rooms in itertools.product((-1, 0, 2), repeat=3):
+            yield joint(places + rooms[0], places + rooms[1], max(need + rooms[2], 0), a, b)
+    for first, other in itertools.product((0, 1, 2, 66, 67, 80), repeat=2):
+        yield joint(600, 600, 20, b"\xd3" * first, b"\x4e" * other)
+
+
+def run_joint_edges():
+    for a, b, _, _ in PRINTED_PAIRS:
+        words = second.joint_tape(list(zip(*second.joint_rows(a, b, 14))))
+        for lent, modulus in itertools.product((3, 4, 7), (1, 1000, 2**32 - 1)):
+            yield run_joint(lent, modulus, 7, 11, words)
+    most = 2**32 - 1
+    for modulus, g, h in itertools.product((0, 1, 2, 10, 2**31, most), (0, 1, 9, 2**31, most), (0, 3, 11, most - 1, most)):
+        yield run_joint(4, modulus, g, h, [0x1003, 0, 0x3002, 0x4001, 0, 0x3000])
+        yield run_joint(4, modulus, g, h, [])
+        yield run_joint(5, modulus, g, h, [0x2003])
+    for count in (1056, 1057, 1058, 1100):
+        yield run_joint(4, 1000003, 5, 7, [0x1001] + [0x0000] * (count - 1))
+        yield run_joint(4, most, most, most, [0x2002] + [0x3003, 0x0000] * ((count - 1) // 2) + [0x4003] * ((count - 1) % 2))
+    for code, entry in itertools.product(range(16), (0, 1, 2, 3, 4, 5, 4095)):
+        x = code << 12 | entry
+        for words in ([x], [0x1003, x, 0x0000], [0x2001, 0x0000, 0x3002, x]):
+            yield run_joint(4, 1009, 123, 456, words)
+    for lent in (0, 1, 2, 3, 4, 5, 80):
+        yield run_joint(lent, 97, 5, 6, [0x1000])
+
+
 def reader_edges():
     for n, width in itertools.product(range(256), WIDTHS):
         yield reader(width, 10, bytes([n]))
@@ -693,6 +786,8 @@ def trial_malformed():
         run(3, 3, 10, 9, [0x1001, 0, 0x3000]),
         reader(3, 4, b"\x2a"),
         search(3, 42),
+        joint_fitting(b"\x39", b"\x16"),
+        run_joint(4, 10, 9, 8, [0x1003, 0, 0x3002]),
         below_fitting(WNAF, 3, b"\x2b", b"\x2a"),
         write(2, 40, [0, -3, 0, 0, 3]),
         read(6, second.frame_of(2, [0, -3, 0, 0, 3])),
@@ -704,7 +799,7 @@ def trial_malformed():
         yield from (line[: 2 * k] for k in range(len(line) // 2))
         yield line + b"00"
         yield line + b"1000"
-    for call in (0, 8, 9, 13, 16, 18, 32, 33, 46, 63, 64, 65, 97, 127, 128, 136, 142, 143, 160, 161, 192, 193, 255):
+    for call in (0, 8, 13, 16, 18, 32, 33, 46, 63, 64, 65, 97, 127, 128, 136, 138, 142, 143, 160, 161, 192, 193, 255):
         yield b"%02X" % call + good[0][2:]
         yield b"%02X" % call
     yield from at_the_limits()
@@ -729,10 +824,19 @@ def at_the_limits():
         yield below(WNAF, 3, 9, 12 + more, b"\x2b", b"\x2a")
         yield below(WNAF, 3, 9, 9, bytes(80 + more), b"\x2a")
         yield below(WNAF, 3, 9, 9, b"\x2b", bytes(80 + more))
+        yield joint(600 + more, 9, 20, b"\x39", b"\x16")
+        yield joint(9, 600 + more, 20, b"\x39", b"\x16")
+        yield joint(9, 9, 1100 + more, b"\x39", b"\x16")
+        yield joint(9, 9, 20, bytes(80 + more), b"\x16")
+        yield joint(9, 9, 20, b"\x39", bytes(80 + more))
+        yield run_joint(80 + more, 7, 3, 2, [0x1000])
+        yield run_joint(4, 7, 3, 2, [0x1000] * (1100 + more))
         yield write(2, 3300 + more, [1])
         yield write(2, 50, [1] * (600 + more))
         yield read(600 + more, b"01")
         yield read(1, b"0" * (3300 + more))
+    yield joint(600, 600, 1100, b"\xdb" * 66, b"\x6d" * 66)
+    yield hexadecimal(bytes([9, 0, 9, 0, 9, 0, 20, 2, 1]))
     yield recode(WNAF, 3, 65535, 9, b"\x2a")
     yield recode(WNAF, 3, 9, 255, b"\x2a")
     yield hexadecimal(bytes([2, 2, 255, 1]))
@@ -833,6 +937,34 @@ def any_run(rng):
     return run(width, lent, modulus, base, some_words(rng, width))
 
 
+def any_joint(rng):
+    """Two scalars of one length, mostly; now and then the same one twice, or one that is near the other."""
+    a = scalar_like(rng, some_length(rng))
+    b = scalar_like(rng, len(a) if rng.random() < 0.95 else some_length(rng))
+    kind = rng.randrange(12)
+    if kind == 0:
+        b = a
+    elif kind == 1 and a:
+        b = (second.number(a) ^ 1 << rng.randrange(8 * len(a))).to_bytes(len(a), "big")
+    places, others = (min(max(8 * len(a) + 1 + rng.choice([0, 0, 0, 0, 0, 0, 1, 5, -1]), 0), 600) for _ in range(2))
+    need = second.joint(a, b, [0] * 529, [0] * 529, [0] * MOST_WORDS)[0][4]
+    return joint(places, others, max(need + rng.choice([0, 0, 0, 0, 1, 3, -1]), 0), a, b)
+
+
+def any_run_joint(rng):
+    """A pair's tape, or any words over four entries."""
+    bits = rng.choice([1, 4, 8, 16, 31, 32])
+    modulus, g, h = rng.randrange(2**bits), rng.randrange(2 ** rng.choice([bits, 32])), rng.randrange(2 ** rng.choice([bits, 32]))
+    if rng.random() < 0.5:
+        n = rng.randrange(1, 70)
+        words = second.joint_tape(list(zip(*second.joint_rows(rng.randrange(2**n), rng.randrange(2**n), n))))
+        if rng.random() < 0.15 and words:
+            words[rng.randrange(len(words))] = rng.choice([rng.randrange(65536), 0x1000, 0x0001, 0x5000, 0x3004])
+    else:
+        words = some_words(rng, second.JOINT_WIDTH)
+    return run_joint(4 + rng.choice([0, 0, 0, 2, -1]), modulus, g, h, words)
+
+
 def any_reader(rng):
     scalar = scalar_like(rng, min(some_length(rng), 67))
     return reader(rng.choice(WIDTHS), max(8 * len(scalar) + rng.choice([0, 1, 2, 4]), 0), scalar)
@@ -853,7 +985,7 @@ def any_lowest_first(rng, line):
     if call == 11 and rng.random() < 0.8:
         start = 14 + 2 * int(line[12:14], 16)
         line = line[:start] + hexadecimal(bytes.fromhex(line[start:].decode("ascii"))[::-1])
-    return lowest_first(line) if call in (1, 2, 3, 6, 11) or rng.random() < 0.1 else line
+    return lowest_first(line) if call in (1, 2, 3, 6, 9, 11) or rng.random() < 0.1 else line
 
 
 def frame_string(rng):
@@ -933,7 +1065,7 @@ def salvage_input():
 
 def some_trial_line(rng):
     """A line for the trial program, mostly good."""
-    line = rng.choice([any_recode, any_below, any_check, any_check, any_tape, any_run, any_reader, any_search, any_write, any_read, any_read])(rng)
+    line = rng.choice([any_recode, any_below, any_check, any_check, any_tape, any_run, any_joint, any_joint, any_run_joint, any_reader, any_search, any_write, any_read, any_read])(rng)
     if rng.randrange(3) == 0:
         line = any_lowest_first(rng, line)
     kind = rng.randrange(40)
@@ -961,6 +1093,8 @@ def trial_input():
         *tape_edges(),
         *run_edges(),
         *run_every_word(),
+        *joint_edges(),
+        *run_joint_edges(),
         *reader_edges(),
         *cross_check(),
         *write_edges(),
@@ -970,10 +1104,12 @@ def trial_input():
         *check_faults(),
         *tape_faults(),
         *run_faults(),
+        *joint_faults(),
+        *run_joint_faults(),
         *frame_faults(),
         *small_faults(),
         *trial_malformed(),
     ]
-    lines += [some_trial_line(rng) for _ in range(3500)]
+    lines += [some_trial_line(rng) for _ in range(4000)]
     lines += [search(3, 11)]
     return b"\n".join(lines)

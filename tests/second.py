@@ -3,11 +3,12 @@
 
 Nothing here is taken from the library. Numbers are Python's integers. MOF comes from bits, wNAF from signed
 residues, wMOF from the document's windows, the closest form from trying candidates, worth from summing, the search
-from trying every digit. The functions are short and slow; that they and the library agree is the point.
+from trying every digit, the joint sparse form from Solinas's rule, and once more by trying every column. The functions are short and slow; that they and the library agree is the point.
 
     python3 tests/second.py write    writes stdin and stdout of the programs recode, sparse, salvage and trial
     python3 tests/second.py check    makes them again and says where what is stored differs (exit 1)
     python3 tests/second.py widths   weighs every scalar of one and of two bytes at every width, in every form but MOF; minutes
+    python3 tests/second.py pairs    searches the joint sparse form of every pair of one-byte scalars: the only one, and of the fewest columns
 
 The first two hold the definitions against each other before (`own_checks`). The lines themselves are made in cases.py.
 
@@ -29,6 +30,10 @@ capitals: every field, then every lent buffer whole. Numbers of more than one by
     06 reader         width 1, calls 2, scalar                              refusal 1, then for each call 01 and the
                                                                             digit, or 0000 for done
     07 search         width 1, number 4                                     refusal 1, weight 1
+    09 joint          places lent for a 2, for b 2, words lent 2,           refusal 1, place 2, columns 2, top 2, words 2,
+                      length of a 1, a, b                                   doublings 2, additions 2, row a, row b, the
+                                                                            words lent
+    0A joint run      multiples lent 2, modulus 4, g 4, h 4, tape           as 05
     0B recode below   form 1, width 1, places lent 2, mark words lent 1,    as 01
                       group order's length 1, group order, scalar
     0E write          version 1, characters lent 2, digits                  refusal 1, length 2, the line's buffer
@@ -39,7 +44,7 @@ A digit is one byte in two's complement, a mark word eight bytes, a tape word tw
 every lent digit is 5A, mark word A5A5A5A5A5A5A5A5, tape word EEEE, multiple DEADBEEF, character of a line 2E. What has
 no stated length runs to the end of the line. A line ends at a line feed; a last line without one counts if not empty.
 
-With 80 added to the call, 81, 82, 83, 86 and 8B, the scalar's bytes come lowest first; else they come highest first.
+With 80 added to the call, 81, 82, 83, 86, 89 and 8B, a scalar's bytes come lowest first; else they come highest first.
 The group order's come highest first in either.
 
 FF answers a line that is no such frame: empty, of odd length, with another character, of another call, without a
@@ -365,6 +370,142 @@ def run(width, words, modulus, base, multiples):
     return (refusal, place, 0, 0, 0, 0, 0), multiples
 
 
+# ---- two scalars together
+def joint_digit(n, other):
+    """Solinas's rule: 0 for an even number, else its signed residue modulo 4, turned where it is 3 or 5 modulo 8 beside one that is 2 modulo 4."""
+    if n % 2 == 0:
+        return 0
+    u = signed_residue(n, 4)
+    return -u if n % 8 in (3, 5) and other % 4 == 2 else u
+
+
+def joint_rows(a, b, bits):
+    """The rows of the joint sparse form on n + 1 places."""
+    rows = [], []
+    for _ in range(bits + 1):
+        u, v = joint_digit(a, b), joint_digit(b, a)
+        rows[0].append(u)
+        rows[1].append(v)
+        a, b = (a - u) // 2, (b - v) // 2
+    assert (a, b) == (0, 0)
+    return rows
+
+
+def calm(low, high, other_low, other_high):
+    """Two neighbouring nonzero digits of a row have one sign, and the other row is nonzero at the higher place and zero at the lower."""
+    return 0 in (low, high) or low == high and other_high != 0 and other_low == 0
+
+
+def sparse(columns):
+    """Of any three consecutive columns one is zero, and both rows are calm."""
+    gaps = all((0, 0) in columns[i : i + 3] for i in range(len(columns) - 2))
+    pairs = list(zip(columns, columns[1:]))
+    return gaps and all(calm(c[0], d[0], c[1], d[1]) and calm(c[1], d[1], c[0], d[0]) for c, d in pairs)
+
+
+def joint_columns(a, b):
+    """Every column that may stand at the lowest place of two rows worth a and b."""
+    return [(u, v) for u in (-1, 0, 1) for v in (-1, 0, 1) if (a - u) % 2 == 0 and (b - v) % 2 == 0]
+
+
+def sparse_columns(a, b, places, under=()):
+    """Every pair of rows on so many places that is worth a and b and sparse, as columns from the lowest place, over the two columns under them."""
+    if places == 0:
+        return [[]] if (a, b) == (0, 0) else []
+    found = []
+    for u, v in joint_columns(a, b):
+        if sparse([*under, (u, v)]):
+            rest = sparse_columns((a - u) // 2, (b - v) // 2, places - 1, (*under, (u, v))[-2:])
+            found += [[(u, v), *more] for more in rest]
+    return found
+
+
+@functools.lru_cache(maxsize=None)
+def least_columns(a, b, places):
+    """The fewest nonzero columns of any pair of rows of -1, 0, 1 on so many places worth a and b; None if there is none."""
+    if places == 0:
+        return 0 if (a, b) == (0, 0) else None
+    found = [((u, v), least_columns((a - u) // 2, (b - v) // 2, places - 1)) for u, v in joint_columns(a, b)]
+    return min((rest + (column != (0, 0)) for column, rest in found if rest is not None), default=None)
+
+
+ENTRIES = {(1, 0): 0, (0, 1): 1, (1, 1): 2, (1, -1): 3}  # of g, h, g + h, g - h
+
+
+def joint_tape(columns):
+    """As `tape_of`, with a column for a digit."""
+    words = []
+    for u, v in reversed(columns):
+        if words:
+            words.append(DOUBLE << 12)
+        if (u, v) in ENTRIES:
+            words.append((ADD if words else LOAD) << 12 | ENTRIES[u, v])
+        elif (u, v) != (0, 0):
+            words.append((SUBTRACT if words else LOAD_NEGATED) << 12 | ENTRIES[-u, -v])
+    return words
+
+
+def joint(a, b, first, second, words, order=HIGHEST_FIRST):
+    """refusal, place, columns, top, word count, doublings, additions; first, second, words"""
+    places = 8 * len(a) + 1
+    refusal = 0
+    if max(len(a), len(b)) > MOST_BYTES:
+        refusal = 3
+    elif len(a) != len(b):
+        refusal = 18
+    elif min(len(first), len(second)) < places:
+        refusal = 4
+    else:
+        rows = joint_rows(number(a, order), number(b, order), 8 * len(a))
+        columns = list(zip(*rows))
+        made = joint_tape(columns)
+        if len(words) < len(made):
+            refusal = 11
+    if refusal != 0:
+        return (refusal, 0, 0, 0, 0, 0, 0), first, second, words
+    full = [j for j, column in enumerate(columns) if column != (0, 0)]
+    counts = len(full), max(full, default=-1) + 1, len(made), max(full, default=0), max(len(full) - 1, 0)
+    return (0, 0, *counts), rows[0] + first[places:], rows[1] + second[places:], made + words[len(made) :]
+
+
+def pair_value(words):
+    """How often a tape takes g, and h."""
+    pairs = {entry: column for column, entry in ENTRIES.items()}
+    a = b = 0
+    for x in words:
+        code, (u, v) = code_of(x), pairs[entry_of(x)]
+        if code == DOUBLE:
+            a, b = 2 * a, 2 * b
+        elif code in (LOAD, LOAD_NEGATED):
+            a, b = (u, v) if code == LOAD else (-u, -v)
+        else:
+            a, b = (a + u, b + v) if code == ADD else (a - u, b - v)
+    return a, b
+
+
+JOINT_WIDTH = 4  # as many entries
+
+
+def run_joint(words, modulus, g, h, multiples):
+    """As `run`, over the entries g, h, g + h and g - h."""
+    place = 0
+    if modulus == 0:
+        refusal = 12
+    elif len(words) > MOST_WORDS:
+        refusal = 13
+    elif len(multiples) < len(ENTRIES):
+        refusal = 14
+    elif bad_words(JOINT_WIDTH, words):
+        refusal, place = 15, min(bad_words(JOINT_WIDTH, words))
+    else:
+        doublings = sum(1 for x in words if code_of(x) == DOUBLE)
+        additions = sum(1 for x in words if code_of(x) in (ADD, SUBTRACT))
+        a, b = pair_value(words)
+        stored = [x % modulus for x in (g, h, g + h, g - h)]
+        return (0, 0, (a * g + b * h) % modulus, doublings, additions, 2, 0), stored + multiples[len(stored) :]
+    return (refusal, place, 0, 0, 0, 0, 0), multiples
+
+
 def reader(width, scalar, calls, order=HIGHEST_FIRST):
     """refusal; what each call gives, a digit or None for done"""
     if bad_width(width):
@@ -587,15 +728,36 @@ def trial_tape(frame):
     return bytes([refusal]) + big_endian(fields + words, 2)
 
 
+def given_words(frame):
+    data = frame.remaining(TRIAL_WORDS, 2)
+    return [number(data[i : i + 2]) for i in range(0, len(data), 2)]
+
+
+def ran(answer, multiples):
+    refusal, place, residue, *counts = answer
+    fields = big_endian([refusal], 1) + big_endian([place], 2) + big_endian([residue], 4) + big_endian(counts, 2)
+    return fields + big_endian(multiples, 4)
+
+
 def trial_run(frame):
     width = frame.number(1)
     multiples = [LENT_MULTIPLE] * frame.number(2, TRIAL_MULTIPLES)
     modulus, base = frame.number(4), frame.number(4)
-    data = frame.remaining(TRIAL_WORDS, 2)
-    words = [number(data[i : i + 2]) for i in range(0, len(data), 2)]
-    (refusal, place, residue, *counts), multiples = run(width, words, modulus, base, multiples)
-    fields = big_endian([refusal], 1) + big_endian([place], 2) + big_endian([residue], 4) + big_endian(counts, 2)
-    return fields + big_endian(multiples, 4)
+    return ran(*run(width, given_words(frame), modulus, base, multiples))
+
+
+def trial_joint(frame):
+    first, second = ([LENT_DIGIT] * frame.number(2, TRIAL_PLACES) for _ in range(2))
+    words = [LENT_WORD] * frame.number(2, TRIAL_WORDS)
+    a = frame.take(frame.number(1, TRIAL_BYTES))
+    (refusal, *fields), first, second, words = joint(a, frame.remaining(TRIAL_BYTES), first, second, words, frame.order)
+    return bytes([refusal]) + big_endian(fields, 2) + big_endian(first + second, 1) + big_endian(words, 2)
+
+
+def trial_run_joint(frame):
+    multiples = [LENT_MULTIPLE] * frame.number(2, TRIAL_MULTIPLES)
+    modulus, g, h = frame.number(4), frame.number(4), frame.number(4)
+    return ran(*run_joint(given_words(frame), modulus, g, h, multiples))
 
 
 def trial_reader(frame):
@@ -630,9 +792,9 @@ def trial_below(frame):
 
 
 TRIALS = dict(enumerate([trial_recode, trial_check, trial_nonadjacent, trial_tape, trial_run, trial_reader, trial_search], 1))
-TRIALS |= {0x0B: trial_below, 0x0E: trial_write, 0x0F: trial_read}
-ON_A_SCALAR = [trial_recode, trial_check, trial_nonadjacent, trial_reader, trial_below]
-LOWEST = 0x80  # added to the call: the scalar's bytes come lowest first
+TRIALS |= {0x09: trial_joint, 0x0A: trial_run_joint, 0x0B: trial_below, 0x0E: trial_write, 0x0F: trial_read}
+ON_A_SCALAR = [trial_recode, trial_check, trial_nonadjacent, trial_reader, trial_joint, trial_below]
+LOWEST = 0x80  # added to the call: a scalar's bytes come lowest first
 
 
 def trial_answer(line):
@@ -755,6 +917,24 @@ def check_salvage():
             assert kept == salvage(before)[0] + salvage(after)[0] and report == salvage(before)[1] + again
 
 
+def check_pairs(below, places):
+    """The joint sparse form of every pair under a limit: the rule's rows are the only sparse ones on so many places, and no others have fewer columns."""
+    for a in range(below):
+        for b in range(below):
+            columns = list(zip(*joint_rows(a, b, places - 1)))
+            assert sparse_columns(a, b, places) == [columns], (a, b)
+            assert least_columns(a, b, places + 2) == sum(c != (0, 0) for c in columns), (a, b)
+
+
+def check_joint():
+    """The run of a pair's tape gives a g + b h, and does what the call tells."""
+    for a, b in ((0, 0), (57, 22), (22, 57), (6699, 4846), (513, 513), (65535, 0), (0, 65535), (43690, 21845)):
+        scalars = a.to_bytes(2, "big"), b.to_bytes(2, "big")
+        (refusal, _, _, _, count, doublings, additions), first, second, words = joint(*scalars, [0] * 17, [0] * 17, [0] * MOST_WORDS)
+        assert refusal == 0 and pair_value(words[:count]) == (a, b) == (worth(first), worth(second))
+        assert run_joint(words[:count], 1009, 123, 4567, [0] * 4)[0] == (0, 0, (a * 123 + b * 4567) % 1009, doublings, additions, 2, 0)
+
+
 def own_checks():
     check_forms()
     check_nearest()
@@ -763,6 +943,8 @@ def own_checks():
     check_frames()
     check_salvage()
     check_widths(1)
+    check_pairs(32, 6)
+    check_joint()
 
 
 # ---- stored files
@@ -787,12 +969,15 @@ def differing_line(a, b):
 
 
 def main(words):
-    if words not in (["write"], ["check"], ["widths"]):
-        sys.exit("usage: second.py write | check | widths")
+    if words not in (["write"], ["check"], ["widths"], ["pairs"]):
+        sys.exit("usage: second.py write | check | widths | pairs")
     if words == ["widths"]:
         check_widths(1)
         check_widths(2)
         return print("second.py: no scalar of one or two bytes weighs more at the next width")
+    if words == ["pairs"]:
+        check_pairs(256, 9)
+        return print("second.py: the joint sparse form of each of 65,536 pairs is the only one, and has the fewest columns")
     own_checks()
     root = os.path.dirname(os.path.dirname(os.path.abspath(__file__)))
     for path, made in stored_files().items():

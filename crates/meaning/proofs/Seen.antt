@@ -17,6 +17,8 @@ use Rattle.meaning.specs.Words.{stepOf}
 use Rattle.meaning.specs.Walks.{taken, walked, wholes, tapeValue, doublings, additions}
 use Rattle.meaning.specs.Multiples.{makingOf, made, madeFrom, costDoublings, costAdditions, costOf}
 use Rattle.meaning.specs.Taping.{moves, down, tapeOf}
+use Rattle.meaning.specs.Joint.{column, columnsOf}
+use Rattle.meaning.specs.JointRunning.{pairAt, pairValue, jointEntry, jointEntriesOf}
 use Rattle.meaning.specs.Reading.{digit, done, readAt}
 use Rattle.meaning.specs.Lines.{linesOf}
 use Rattle.meaning.specs.Hexadecimal.{nibble, allHex, inPairs, bytesOf, written, raised, inCapitals, hasSmall}
@@ -226,3 +228,32 @@ its-text = refl
 its-moved : moved 2 ((1, caseOnly) ∷ (120, dropped 7) ∷ []) ≡ (3, caseOnly) ∷ (122, dropped 7) ∷ []
 unfolding moved
 its-moved = refl
+
+-- 3 and 2 together: the columns (1, 0) and (1, 1) are the digits 1 and 5, of the entries 0 and 2; their tape is load g + h, double, add g
+its-columns : columnsOf (pos 1 ∷ pos 1 ∷ []) (pos 0 ∷ pos 1 ∷ []) ≡ pos 1 ∷ pos 5 ∷ []
+unfolding columnsOf column
+its-columns = refl
+
+pair-tape : tapeOf (pos 1 ∷ pos 5 ∷ []) ≡ 0x1002 ∷ 0 ∷ 0x3000 ∷ []
+unfolding tapeOf down moves
+pair-tape = refl
+
+-- it takes g three times and h twice
+pair-leaves : pairValue (0x1002 ∷ 0 ∷ 0x3000 ∷ []) ≡ record { first = pos 3; second = pos 2 }
+unfolding walked taken stepOf pairAt
+pair-leaves = refl
+
+-- subtracting entry 3 takes g - h off
+difference-off : pairValue (0x1000 ∷ 0x4003 ∷ []) ≡ record { first = pos 0; second = pos 1 }
+unfolding walked taken stepOf pairAt
+difference-off = refl
+
+-- the shorter of two rows has zeros past its end
+unequal-rows : columnsOf (negsuc 0 ∷ []) (pos 1 ∷ negsuc 0 ∷ []) ≡ negsuc 6 ∷ negsuc 2 ∷ []
+unfolding columnsOf column
+unequal-rows = refl
+
+-- the entries of 3 and 5 modulo 7
+its-entries : jointEntriesOf 7 3 5 ≡ 3 ∷ 5 ∷ 1 ∷ 5 ∷ []
+unfolding jointEntriesOf jointEntry listed
+its-entries = refl

@@ -15,6 +15,9 @@ pub mod Walks
 pub mod Multiples
 pub mod Taping
 pub mod Running
+pub mod Joint
+pub mod Joining
+pub mod JointRunning
 pub mod Reading
 pub mod Searching
 pub mod Lines

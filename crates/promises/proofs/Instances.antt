@@ -40,18 +40,18 @@ abbrev Decided : Rule → Type 0
 Decided x = ((p : ℕ) × Applies x p) ⊎ Fails x
 
 -- each rule, where those before it fail
-abbrev AllDecided : List Rule → Type 0
+abbrev pub AllDecided : List Rule → Type 0
 AllDecided [] = Unit {0}
 AllDecided (x ∷ xs) = Decided x × (Fails x → AllDecided xs)
 
 -- then one of them is the first, or none is
-first-exists : (rules : List Rule) → AllDecided rules → (r : ℕ) × (p : ℕ) × First rules r p
+pub first-exists : (rules : List Rule) → AllDecided rules → (r : ℕ) × (p : ℕ) × First rules r p
 first-exists [] d = (0, 0, (refl, refl))
 first-exists (x ∷ xs) (inl (p, h), d) = (numberOf x, p, inl (refl, h))
 first-exists (x ∷ xs) (inr n, d) = let (r, p, f) = first-exists xs (d n) in (r, p, inr (n, f))
 
 -- a rule's number does not matter here
-by : {C : Type 0} → Dec C → Decided (plain 0 C)
+pub by : {C : Type 0} → Dec C → Decided (plain 0 C)
 by (yes c) = inl (0, (c, refl))
 by (no n) = inr n
 
@@ -93,7 +93,7 @@ among C dec n within = go (search-under C dec n)
     go (inr f) = inr (λ p c. f p (within p c) c)
 
 -- ---- sentences that can be decided
-or? : {A B : Type 0} → Dec A → Dec B → Dec (A ⊎ B)
+pub or? : {A B : Type 0} → Dec A → Dec B → Dec (A ⊎ B)
 or? (yes a) b = yes (inl a)
 or? (no n) (yes b) = yes (inr b)
 or? (no n) (no m) = no (⊎-elim n m)
@@ -103,7 +103,7 @@ and? (no n) b = no (λ h. n (h .0))
 and? (yes a) (no n) = no (λ h. n (h .1))
 and? (yes a) (yes b) = yes (a, b)
 
-not? : {A : Type 0} → Dec A → Dec (A → ⊥)
+pub not? : {A : Type 0} → Dec A → Dec (A → ⊥)
 not? (yes a) = no (λ n. n a)
 not? (no n) = yes n
 
@@ -254,7 +254,7 @@ good? count i x =
     go (yes (a, (b, (c, (d, e))))) = yes (record { code = a; entry = b; double = c; first = d; later = e })
     go (no n) = no (λ g. n (g .code, (g .entry, (g .double, (g .first, g .later)))))
 
-word? : (count : ℕ) (ws : List ℕ) → Decided (lowest 15 (BadWord count ws))
+pub word? : (count : ℕ) (ws : List ℕ) → Decided (lowest 15 (BadWord count ws))
 word? count ws = among (BadWord count ws) one (length ws) (λ p b. b .within)
   where
     one : (p : ℕ) → Dec (BadWord count ws p)

@@ -26,3 +26,7 @@ pub mod Exported
 pub mod Cost
 pub mod Wider
 pub mod Orders
+pub mod Joint
+pub mod JointRun
+pub mod Together
+pub mod JointKnown

@@ -22,49 +22,61 @@ use Rattle.run.specs.Outcomes.{refusalOf, placeOf, residueOf, Numbered, answer,
 pub residue-same : (m : ℕ) (z : ℤ) (x y : ℕ) → Residue m z x → Residue m z y → x ≡ y
 residue-same m z x y a b = same-floor m (a .quotient) (b .quotient) x y (sym (a .is) ∙ b .is) (a .least) (b .least) .1
 
+-- ---- an answer by its fields
+-- on plain numbers
+told : (r p x d n k l : ℕ) → Running.Ran
+told r p x d n k l = record { refusal = r; place = p; residue = x; doublings = d; additions = n; cost = record { doublings = k; additions = l } }
+
+pub ran-same : (a b : Running.Ran) → a .refusal ≡ b .refusal → a .place ≡ b .place → a .residue ≡ b .residue → a .doublings ≡ b .doublings → a .additions ≡ b .additions
+    → a .cost .doublings ≡ b .cost .doublings → a .cost .additions ≡ b .cost .additions → a ≡ b
+unfolding told
+ran-same a b r p x d n k l =
+    let e : told (a .refusal) (a .place) (a .residue) (a .doublings) (a .additions) (a .cost .doublings) (a .cost .additions)
+    ≡ told (b .refusal) (b .place) (b .residue) (b .doublings) (b .additions) (b .cost .doublings) (b .cost .additions) = cc in
+    e
+
+-- an outcome is told by its number, its place and its residue, where no refusal has the number 0
+outcome-same : (a b : Outcome) → Numbered a → Numbered b → refusalOf a ≡ refusalOf b → placeOf a ≡ placeOf b → residueOf a ≡ residueOf b → a ≡ b
+outcome-same (variants.Residue x) (variants.Residue y) n k r p e = ap variants.Residue e
+outcome-same (variants.Residue x) (variants.Refused g) n k r p e = absurd (k (sym r))
+outcome-same (variants.Refused f) (variants.Residue y) n k r p e = absurd (n r)
+outcome-same (variants.Refused f) (variants.Refused g) n k r p e =
+    ap (λ x. variants.Refused (record { number = x; place = f .place })) r ∙ ap (λ x. variants.Refused (record { number = g .number; place = x })) p
+
+-- so on the enum of the answer
+made : Outcome → (d n k l : ℕ) → Ran
+made o d n k l = record { outcome = o; doublings = d; additions = n; cost = record { doublings = k; additions = l } }
+
+pub enum-same : (a b : Ran) → Numbered (a .outcome) → Numbered (b .outcome) → answer a ≡ answer b → a ≡ b
+unfolding made
+enum-same a b s t q =
+    let o = outcome-same (a .outcome) (b .outcome) s t (ap (λ (x : Running.Ran). x .refusal) q) (ap (λ (x : Running.Ran). x .place) q) (ap (λ (x : Running.Ran). x .residue) q) in
+    let d = ap (λ (x : Running.Ran). x .doublings) q in
+    let n = ap (λ (x : Running.Ran). x .additions) q in
+    let k = ap (λ (x : Running.Ran). x .cost .doublings) q in
+    let l = ap (λ (x : Running.Ran). x .cost .additions) q in
+    let same : made (a .outcome) (a .doublings) (a .additions) (a .cost .doublings) (a .cost .additions) ≡ made (b .outcome) (b .doublings) (b .additions) (b .cost .doublings) (b .cost .additions) = cc in
+    same
+
+-- ---- run
 module _ (w : ℕ) (ws : List ℕ) (m g : ℕ) (multiples₀ : List ℕ) where
-  -- on plain numbers
-  told : (r p x d n k l : ℕ) → Running.Ran
-  told r p x d n k l = record { refusal = r; place = p; residue = x; doublings = d; additions = n; cost = record { doublings = k; additions = l } }
+  abbrev count : ℕ
+  count = entries (largest w)
 
   pub run-plain : (a b : Running.Ran) (ms ns : List ℕ) → Run w ws m g multiples₀ a ms → Run w ws m g multiples₀ b ns → (a ≡ b) × (ms ≡ ns)
-  unfolding told
   run-plain a b ms ns K L =
-      let count = entries (largest w) in
-      let (r, p) = first-only (runRules w ws m (length multiples₀)) (K .first) (L .first) in
-      let x = same r (ℕ-discrete (a .refusal) 0) in
-      let d = K .doublings-are ∙ ap (λ t. granted t (doublings ws)) r ∙ sym (L .doublings-are) in
-      let n = K .additions-are ∙ ap (λ t. granted t (additions ws)) r ∙ sym (L .additions-are) in
-      let k = K .cost-doublings-are ∙ ap (λ t. granted t (costOf count .doublings)) r ∙ sym (L .cost-doublings-are) in
-      let l = K .cost-additions-are ∙ ap (λ t. granted t (costOf count .additions)) r ∙ sym (L .cost-additions-are) in
-      let e : told (a .refusal) (a .place) (a .residue) (a .doublings) (a .additions) (a .cost .doublings) (a .cost .additions)
-      ≡ told (b .refusal) (b .place) (b .residue) (b .doublings) (b .additions) (b .cost .doublings) (b .cost .additions) = cc in
-      (e, K .multiples-are ∙ ap (λ t. kept t (multiplesOf count m g ++ drop count multiples₀) multiples₀) r ∙ sym (L .multiples-are))
+      let (r, p) = first-only (runRules w ws m (length multiples₀)) (K .first) (L .first) in (
+        ran-same a b r p (same r (ℕ-discrete (a .refusal) 0))
+            (K .doublings-are ∙ ap (λ t. granted t (doublings ws)) r ∙ sym (L .doublings-are))
+            (K .additions-are ∙ ap (λ t. granted t (additions ws)) r ∙ sym (L .additions-are))
+            (K .cost-doublings-are ∙ ap (λ t. granted t (costOf count .doublings)) r ∙ sym (L .cost-doublings-are))
+            (K .cost-additions-are ∙ ap (λ t. granted t (costOf count .additions)) r ∙ sym (L .cost-additions-are)),
+        K .multiples-are ∙ ap (λ t. kept t (multiplesOf count m g ++ drop count multiples₀) multiples₀) r ∙ sym (L .multiples-are),
+      )
     where
       same : a .refusal ≡ b .refusal → Dec (a .refusal ≡ 0) → a .residue ≡ b .residue
       same e (yes z) = residue-same m (tapeValue ws *ℤ pos g) (a .residue) (b .residue) (K .residue-is z) (L .residue-is (sym e ∙ z))
       same e (no n) = K .residue-none n ∙ sym (L .residue-none (λ z. n (e ∙ z)))
 
-  -- an outcome is told by its number, its place and its residue, where no refusal has the number 0
-  outcome-same : (a b : Outcome) → Numbered a → Numbered b → refusalOf a ≡ refusalOf b → placeOf a ≡ placeOf b → residueOf a ≡ residueOf b → a ≡ b
-  outcome-same (variants.Residue x) (variants.Residue y) n k r p e = ap variants.Residue e
-  outcome-same (variants.Residue x) (variants.Refused g) n k r p e = absurd (k (sym r))
-  outcome-same (variants.Refused f) (variants.Residue y) n k r p e = absurd (n r)
-  outcome-same (variants.Refused f) (variants.Refused g) n k r p e =
-      ap (λ x. variants.Refused (record { number = x; place = f .place })) r ∙ ap (λ x. variants.Refused (record { number = g .number; place = x })) p
-
-  made : Outcome → (d n k l : ℕ) → Ran
-  made o d n k l = record { outcome = o; doublings = d; additions = n; cost = record { doublings = k; additions = l } }
-
-  -- on the enum of the answer
   pub run-determined : (a b : Ran) (ms ns : List ℕ) → Promise w ws m g multiples₀ a ms → Promise w ws m g multiples₀ b ns → (a ≡ b) × (ms ≡ ns)
-  unfolding made
-  run-determined a b ms ns P Q =
-      let (q, e) = run-plain (answer a) (answer b) ms ns (P .run) (Q .run) in
-      let o = outcome-same (a .outcome) (b .outcome) (P .numbered) (Q .numbered) (ap (λ (x : Running.Ran). x .refusal) q) (ap (λ (x : Running.Ran). x .place) q) (ap (λ (x : Running.Ran). x .residue) q) in
-      let d = ap (λ (x : Running.Ran). x .doublings) q in
-      let n = ap (λ (x : Running.Ran). x .additions) q in
-      let k = ap (λ (x : Running.Ran). x .cost .doublings) q in
-      let l = ap (λ (x : Running.Ran). x .cost .additions) q in
-      let same : made (a .outcome) (a .doublings) (a .additions) (a .cost .doublings) (a .cost .additions) ≡ made (b .outcome) (b .doublings) (b .additions) (b .cost .doublings) (b .cost .additions) = cc in
-      (same, e)
+  run-determined a b ms ns P Q = let (q, e) = run-plain (answer a) (answer b) ms ns (P .run) (Q .run) in (enum-same a b (P .numbered) (Q .numbered) q, e)

@@ -41,7 +41,7 @@ fn good(count: usize, index: usize, word: u16) -> bool
 }
 
 // The index of the first bad word, or the count of words.
-fn first_bad(count: usize, words: &[u16]) -> usize
+pub fn first_bad(count: usize, words: &[u16]) -> usize
     requires { ⌜ 0 < count ⌝ }
     ensures { λ r. ⌜ Sifted count (now (words .entry)) r ⌝ }
 {
@@ -57,7 +57,7 @@ fn first_bad(count: usize, words: &[u16]) -> usize
 
 // ---- residues
 // The residue of a residue and a number up to the modulus: no sum leaves 32 bits.
-fn plus(x: u32, y: u32, modulus: u32) -> u32
+pub fn plus(x: u32, y: u32, modulus: u32) -> u32
     requires { ⌜ (x < modulus) × (y ≤ modulus) ⌝ }
     ensures { λ r. ⌜ r ≡ (x + y) % modulus ⌝ }
 {
@@ -106,10 +106,10 @@ fn cost_of(count: usize) -> Cost
 
 // ---- steps
 // The residue reached, and the doublings and additions done.
-struct State {
-    value: u32,
-    doublings: u16,
-    additions: u16,
+pub struct State {
+    pub value: u32,
+    pub doublings: u16,
+    pub additions: u16,
 }
 
 // A residue plus or minus the multiple of a move.
@@ -153,7 +153,7 @@ fn step(state: State, word: u16, modulus: u32, multiples: &[u32]) -> State
 }
 
 // The state that the words reach.
-fn reach(words: &[u16], modulus: u32, multiples: &[u32]) -> State
+pub fn reach(words: &[u16], modulus: u32, multiples: &[u32]) -> State
     requires { ⌜ (0 < modulus) × (length (now words) ≤ mostWords) ⌝ }
     requires { ⌜ ((i : ℕ) → i < length (now words) → Held modulus (now multiples) (getD (now words) i 0)) ⌝ }
     ensures { λ r. ⌜ Reached (residues modulus) (tableOf modulus (now (multiples .entry))) (now (words .entry)) (r .value) (r .doublings) (r .additions) ⌝ }
@@ -191,7 +191,7 @@ pub struct Ran {
     pub cost: Cost,
 }
 
-fn refused(number: u8, place: u16) -> Ran
+pub fn refused(number: u8, place: u16) -> Ran
     ensures { λ r. ⌜ r ≡ refusal number place ⌝ }
 {
     Ran {

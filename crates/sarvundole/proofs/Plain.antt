@@ -5,10 +5,10 @@ use mathlib.Core.List.{List}
 use Prim.Native.Nat.{ℕ, suc}
 use lib.IntN.{ℤ}
 use Rattle.meaning.specs.Scalars.{Order}
-use Rattle.meaning.specs.Running.{Run}
+use Rattle.meaning.specs.Running as Running
 use Rattle.run.specs.declared.Outcome.{Outcome}
 use Rattle.run.specs.declared.Ran.{Ran}
-use Rattle.run.specs.Outcomes.{refusalOf, placeOf, residueOf, costed, Promise}
+use Rattle.run.specs.Outcomes.{refusalOf, placeOf, residueOf, costed, answer}
 use Rattle.reader.specs.declared.Reading.{Reading}
 use Rattle.reader.specs.declared.State.{State}
 use Rattle.reader.specs.declared.Taken.{Taken}
@@ -18,15 +18,9 @@ use Rattle.reader.proofs.Calls.{after-call, after-reads}
 use Rattle.sarvundole.specs.Reads.{given, digitOf, Tells, Reads}
 use Rattle.sarvundole.specs.Steps.{Steps}
 
--- a run whose outcome is o
-pub told : {w : ℕ} {ws : List ℕ} {m g : ℕ} {multiples₀ : List ℕ} {r : Ran} {multiples : List ℕ} {o : Outcome}
-    → r .outcome ≡ o → Promise w ws m g multiples₀ r multiples
-    → Run w ws m g multiples₀ (record { refusal = refusalOf o; place = placeOf o; residue = residueOf o; doublings = r .doublings; additions = r .additions; cost = costed (r .cost) }) multiples
-told {w} {ws} {m} {g} {multiples₀} {r} {multiples} q p =
-    subst
-    (λ o. Run w ws m g multiples₀ (record { refusal = refusalOf o; place = placeOf o; residue = residueOf o; doublings = r .doublings; additions = r .additions; cost = costed (r .cost) }) multiples)
-    q
-    (p .run)
+-- an answer of a run whose outcome is o
+pub told : {r : Ran} {o : Outcome} → r .outcome ≡ o → _≡_ {A = Running.Ran} (record { refusal = refusalOf o; place = placeOf o; residue = residueOf o; doublings = r .doublings; additions = r .additions; cost = costed (r .cost) }) (answer r)
+told {r} q = sym (ap (λ o. record { refusal = refusalOf o; place = placeOf o; residue = residueOf o; doublings = r .doublings; additions = r .additions; cost = costed (r .cost) }) q)
 
 -- a reading whose call is told by g and d
 pub read : {w : ℕ} {o : Order} {s : List ℕ} {k : ℕ} {r : Reading} {g : ℕ} {d : ℤ} → Answered w o s k r → Tells (r .next) g d → Reads w o s k (r .refusal) g d

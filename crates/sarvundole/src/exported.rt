@@ -9,6 +9,7 @@ ghost use Rattle.meaning.specs.Searching.{Search};
 ghost use Rattle.meaning.specs.Frames.{Write, Read};
 ghost use Rattle.digits.specs.Tallies.{told};
 ghost use Rattle.tape.specs.Answers.{taped};
+ghost use Rattle.run.specs.Outcomes.{answer};
 ghost use Rattle.search.specs.Answers.{searched};
 ghost use Rattle.frames.specs.Told.{versionOf, framed, parsed};
 ghost use Rattle.reader.specs.States.{After};
@@ -130,17 +131,10 @@ pub extern "C" fn sarvundole_tape(width: u8, digits: &[i8], words: &mut [u16]) -
     tape::tape(width, digits, words)
 }
 
-#[no_mangle]
-pub extern "C" fn sarvundole_run(
-    width: u8,
-    tape: &[u16],
-    modulus: u32,
-    base: u32,
-    multiples: &mut [u32],
-) -> Ran
-    ensures { λ r. ⌜ Run width (now (tape .entry)) modulus base (now (multiples .entry)) (ran r) (now (multiples .exit)) ⌝ }
+// What a run answers, in plain fields.
+pub fn reported(made: run::Ran) -> Ran
+    ensures { λ r. ⌜ ran r ≡ answer made ⌝ }
 {
-    let made = run::run(width, tape, modulus, base, multiples);
     let outcome = made.outcome;
     let cost = made.cost;
     match outcome {
@@ -161,6 +155,19 @@ pub extern "C" fn sarvundole_run(
             cost,
         },
     }
+}
+
+#[no_mangle]
+pub extern "C" fn sarvundole_run(
+    width: u8,
+    tape: &[u16],
+    modulus: u32,
+    base: u32,
+    multiples: &mut [u32],
+) -> Ran
+    ensures { λ r. ⌜ Run width (now (tape .entry)) modulus base (now (multiples .entry)) (ran r) (now (multiples .exit)) ⌝ }
+{
+    reported(run::run(width, tape, modulus, base, multiples))
 }
 
 // What a call of the reader gives, in plain numbers.

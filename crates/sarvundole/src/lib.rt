@@ -1,5 +1,6 @@
-// The library that a user names: every call and every type of this house under one name, and the calls for C in `exported`.
+// The library that a user names: every call and every type of this house under one name, and the calls for C in `exported` and `together`.
 pub mod exported;
+pub mod together;
 
 pub use digits::Tally;
 pub use frames::Framed;
@@ -7,6 +8,9 @@ pub use frames::Parsed;
 pub use frames::Version;
 pub use frames::read;
 pub use frames::write;
+pub use joined::run_joint;
+pub use joint::Joined;
+pub use joint::joint;
 pub use judge::check;
 pub use judge::check_nonadjacent;
 pub use reader::Next;

@@ -93,7 +93,7 @@ pub fn encode(step: Step) -> u16
 }
 
 // The move of a nonzero digit.
-fn move_of(digit: i8) -> Move
+pub fn move_of(digit: i8) -> Move
     requires { ⌜ digit ≢ pos 0 ⌝ }
     ensures { λ r. ⌜ Moves digit r ⌝ }
 {
@@ -137,7 +137,7 @@ fn added(digit: i8) -> u16
 
 // The words of one place further down, from index `at` on. Gives the index after them. After the double of a 0 stands a word that means nothing:
 // there the next place's double is written.
-fn lower(digit: i8, at: usize, words: &mut [u16]) -> usize
+pub fn lower(digit: i8, at: usize, words: &mut [u16]) -> usize
     requires { ⌜ at + 1 < length (now words) ⌝ }
     ensures { λ r. ⌜ Lowered digit at (now (words .entry)) r (now (words .exit)) ⌝ }
 {
@@ -147,7 +147,7 @@ fn lower(digit: i8, at: usize, words: &mut [u16]) -> usize
 }
 
 // The words of place 0, after which nothing is written.
-fn lowest(digit: i8, at: usize, words: &mut [u16])
+pub fn lowest(digit: i8, at: usize, words: &mut [u16])
     requires { ⌜ at + 1 + nonzero digit ≤ length (now words) ⌝ }
     ensures { λ _. ⌜ now (words .exit) ≡ sets (now (words .entry)) at (wordOf double ∷ moves add digit) ⌝ }
 {
@@ -180,7 +180,7 @@ fn write(digits: &[i8], high: usize, words: &mut [u16])
 }
 
 // What is left of n without k, and 0 if k is more.
-fn without(n: usize, k: usize) -> usize
+pub fn without(n: usize, k: usize) -> usize
     ensures { λ r. ⌜ r ≡ n - k ⌝ }
 {
     if n < k { 0 } else { n - k }

@@ -7,7 +7,7 @@ use Rattle.trial.specs.declared.input.Stepped.{Stepped}
 
 -- the longest answer, its line feed counted
 abbrev pub mostAnswer : ℕ
-mostAnswer = 6607
+mostAnswer = 6827
 
 -- an answer ends at r, and there is room for a line feed after it
 abbrev pub Answered : ℕ → Type 0

@@ -2,6 +2,8 @@
 use crate::bounding;
 use crate::checking;
 use crate::framing;
+use crate::joining;
+use crate::jointly;
 use crate::parsing;
 use crate::print;
 use crate::reading;
@@ -17,7 +19,7 @@ ghost use Rattle.trial.specs.Room.{mostAnswer, Answered};
 // What a line that is no frame is answered.
 const NO_FRAME: u64 = 0xFF;
 
-// The answer of the call that a frame names, or nothing where it names none. With 80 added, the frame's scalar is lowest byte first.
+// The answer of the call that a frame names, or nothing where it names none. With 80 added, the frame's scalars are lowest byte first.
 fn call(frame: &[u8], out: &mut [u8]) -> usize
     requires { ⌜ mostAnswer ≤ length (now out) ⌝ }
     ensures { λ r. ⌜ Answered r ⌝ }
@@ -33,6 +35,8 @@ fn call(frame: &[u8], out: &mut [u8]) -> usize
         0x05 => running::answer(frame, out),
         0x06 => reading::answer(Order::HighestFirst, frame, out),
         0x07 => searching::answer(frame, out),
+        0x09 => joining::answer(Order::HighestFirst, frame, out),
+        0x0A => jointly::answer(frame, out),
         0x0B => bounding::answer(Order::HighestFirst, frame, out),
         0x0E => framing::answer(frame, out),
         0x0F => parsing::answer(frame, out),
@@ -40,6 +44,7 @@ fn call(frame: &[u8], out: &mut [u8]) -> usize
         0x82 => checking::answer(false, Order::LowestFirst, frame, out),
         0x83 => checking::answer(true, Order::LowestFirst, frame, out),
         0x86 => reading::answer(Order::LowestFirst, frame, out),
+        0x89 => joining::answer(Order::LowestFirst, frame, out),
         0x8B => bounding::answer(Order::LowestFirst, frame, out),
         _ => 0,
     }

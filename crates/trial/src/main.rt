@@ -6,6 +6,8 @@ mod bounding;
 mod checking;
 mod framing;
 mod input;
+mod joining;
+mod jointly;
 mod lent;
 mod parsing;
 mod print;

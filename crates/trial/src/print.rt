@@ -4,8 +4,8 @@ ghost use mathlib.Core.Path.{_≡_};
 ghost use Prim.Native.Nat.{_+_, _*_, _≤_};
 ghost use lib.ListN.{length};
 
-// The longest answer, its line feed counted: that of a written frame with its fields, where all the characters that the program has are lent.
-pub const MOST: usize = 2 * (3 + asked::CHARACTERS) + 1;
+// The longest answer, its line feed counted: that of two scalars together, where all the places and words that the program has are lent.
+pub const MOST: usize = 2 * (13 + 2 * asked::PLACES + 2 * asked::WORDS) + 1;
 
 // A number of so many bytes, the high byte first.
 pub fn number(x: u64, bytes: usize, at: usize, out: &mut [u8]) -> usize

@@ -35,7 +35,7 @@ fn put_outcome(outcome: Outcome, out: &mut [u8]) -> usize
 }
 
 // What a run returns, at the front.
-fn put_ran(ran: Ran, out: &mut [u8]) -> usize
+pub fn put_ran(ran: Ran, out: &mut [u8]) -> usize
     requires { ⌜ 30 ≤ length (now out) ⌝ }
     ensures { λ r. ⌜ r ≡ 30 ⌝ }
 {
@@ -48,7 +48,7 @@ fn put_ran(ran: Ran, out: &mut [u8]) -> usize
     print::number(cost.doublings as u64, 2, at, out)
 }
 
-fn put_multiples(multiples: &[u32], at: usize, out: &mut [u8]) -> usize
+pub fn put_multiples(multiples: &[u32], at: usize, out: &mut [u8]) -> usize
     requires { ⌜ at + 8 * length (now multiples) ≤ length (now out) ⌝ }
     ensures { λ r. ⌜ r ≡ at + 8 * length (now (multiples .entry)) ⌝ }
 {

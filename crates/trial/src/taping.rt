@@ -10,7 +10,7 @@ ghost use Rattle.trial.specs.Room.{mostAnswer, Answered};
 // The bytes before the digits, with the call's own.
 const HEAD: usize = 4;
 
-fn put_words(words: &[u16], at: usize, out: &mut [u8]) -> usize
+pub fn put_words(words: &[u16], at: usize, out: &mut [u8]) -> usize
     requires { ⌜ at + 4 * length (now words) ≤ length (now out) ⌝ }
     ensures { λ r. ⌜ r ≡ at + 4 * length (now (words .entry)) ⌝ }
 {

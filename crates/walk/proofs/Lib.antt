@@ -4,4 +4,5 @@ pub mod Steps
 pub mod Lengths
 pub mod Tapes
 pub mod Residues
+pub mod Pairs
 pub mod Multiples

@@ -1,0 +1,3 @@
+-- The four entries, and what the call answers.
+pub mod Entries
+pub mod Refusals

@@ -1,0 +1,2 @@
+-- What the contract of the call cites beside `meaning`.
+pub mod Promises

@@ -1,0 +1,3 @@
+-- What the contracts of this crate cite beside `meaning` and `pairs`.
+pub mod Places
+pub mod Answers

@@ -1,0 +1,2 @@
+-- The joint sparse form as it is worked out.
+pub mod Columns
