@@ -6,6 +6,7 @@ held against second.py's as the line is made.
 """
 
 import itertools
+import pathlib
 import random
 
 import second
@@ -580,6 +581,24 @@ def check_edges():
         yield call(8, all_ones, [-1] + [0] * 527 + [127])
 
 
+def twist_strings():
+    """Strings of other makers, from twists.txt, which says whose: width, scalar, digits, and the number and place that check and check_nonadjacent answer."""
+    for row in (pathlib.Path(__file__).parent / "twists.txt").read_text().splitlines():
+        if not row.startswith("#"):
+            width, scalar, places, *answers = row.split("  ")
+            digits = {int(j): int(d) for j, d in (place.split(":") for place in places.split())}
+            yield int(width), bytes.fromhex(scalar), [digits.get(j, 0) for j in range(max(digits) + 1)], [tuple(map(int, answer.split())) for answer in answers]
+
+
+def check_twists():
+    for width, scalar, digits, (plain, strict) in twist_strings():
+        assert second.check(width, scalar, digits)[:2] == plain
+        assert second.check(width, scalar, digits, nonadjacent=True)[:2] == strict
+        yield check(width, scalar, digits)
+        yield nonadjacent(width, scalar, digits)
+        yield lowest_first(nonadjacent(width, scalar[::-1], digits))
+
+
 def check_every_digit():
     """Every byte as the only digit, at every width, against its absolute value."""
     for width in (1, *WIDTHS, 9):
@@ -1090,6 +1109,7 @@ def trial_input():
         *check_edges(),
         *check_every_digit(),
         *check_far_off(),
+        *check_twists(),
         *tape_edges(),
         *run_edges(),
         *run_every_word(),

@@ -22,3 +22,4 @@ pub mod Forms
 pub mod Turns
 pub mod Refusals
 pub mod Strings
+pub mod Shorter

@@ -96,10 +96,10 @@ module _ {form w : ℕ} {order : Order} {s : List ℕ} {digits₀ : List ℤ} {m
       }
 
   -- with the weight and the top that recode answered
-  weight-is : weight string ≡ o .tally .weight
+  pub weight-is : weight string ≡ o .tally .weight
   weight-is = ap weight (recoded-string o K z bytes) ∙ sym (K .accepted z .weight-is)
 
-  top-is : top string ≡ o .tally .top
+  pub top-is : top string ≡ o .tally .top
   top-is = ap top (recoded-string o K z bytes) ∙ sym (K .accepted z .top-is)
 
   -- what a check that says yes answers: the same weight and top

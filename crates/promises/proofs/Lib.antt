@@ -30,3 +30,4 @@ pub mod Joint
 pub mod JointRun
 pub mod Together
 pub mod JointKnown
+pub mod Shorter
