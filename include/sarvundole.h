@@ -27,7 +27,7 @@
 #include <stdint.h>
 
 /* This header's version. */
-#define SARVUNDOLE_VERSION "2.1.0"
+#define SARVUNDOLE_VERSION "2.2.0"
 
 #ifdef __cplusplus
 extern "C" {
