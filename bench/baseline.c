@@ -6,6 +6,13 @@
 
 static int bad_width(uint8_t width) { return width < SARVUNDOLE_LEAST_WIDTH || width > SARVUNDOLE_MOST_WIDTH; }
 
+/* 2 for a width that is none, 22 for a pair that is no set, else 0. */
+static uint8_t bad_set(sarvundole_set set) {
+    if (bad_width(set.width)) return 2;
+    unsigned whole = (1u << (set.width - 1)) - 1, most = set.width == SARVUNDOLE_MOST_WIDTH ? whole : 2 * whole + 1;
+    return set.largest % 2 && set.largest >= whole && set.largest <= most ? 0 : 22;
+}
+
 static size_t smaller(size_t a, size_t b) { return a < b ? a : b; }
 
 /* ---- the scalar's bits */
@@ -98,6 +105,30 @@ static string wnaf(string d, uint8_t order, const uint8_t *s, size_t bytes, unsi
     return d;
 }
 
+/* The same in a set between two widths, raised by the largest digit: where what is left over a span of w + 1 bits is more than twice that digit, the digit is the residue of w bits. */
+static string between(string d, uint8_t order, const uint8_t *s, size_t bytes, unsigned w, unsigned largest) {
+    const uint64_t span = (uint64_t)2 << w;
+    const size_t places = 8 * bytes + 1;
+    unsigned carry = 0;
+    for (size_t i = 0; i < places;) {
+        size_t last = smaller(i + STRETCH - 1 - w, places - 1);
+        uint64_t x = stretch(order, s, bytes, i) + carry;
+        while (x) {
+            unsigned zeros = (unsigned)__builtin_ctzll(x);
+            size_t at = i + zeros;
+            if (at > last) break;
+            uint64_t raised = (x >> zeros) + largest, rest = raised & (span - 1), far = rest > 2 * largest, over = largest + (far << w);
+            put(&d, at, (int)rest - (int)over);
+            carry = rest < over;
+            x = 2 * (raised >> w >> 1) + far;
+            d.top = (unsigned)at + 1;
+            i = at + w;
+        }
+        if (i <= last) i = last + 1;
+    }
+    return d;
+}
+
 /* Of the first `count` places of stretch x, those whose bit differs from the one under it, told `tail` places higher up. */
 static uint64_t opened(unsigned tail, uint64_t x, size_t count) { return ((x ^ x >> 1) >> tail & (((uint64_t)1 << count) - 1)) << tail; }
 
@@ -174,11 +205,13 @@ static uint8_t outside(uint8_t order, const uint8_t *scalar, size_t bytes, const
     return 20;
 }
 
-static inline sarvundole_tally recode_by(uint8_t form, uint8_t width, uint8_t order, const uint8_t *scalar, size_t bytes, int below, const uint8_t *group,
+static inline sarvundole_tally recode_by(uint8_t form, sarvundole_set set, uint8_t order, const uint8_t *scalar, size_t bytes, int below, const uint8_t *group,
                                          size_t group_bytes, int8_t *digits, size_t places, uint64_t *marks, size_t words) {
     sarvundole_tally t = {0, 0, 0, 0};
+    const uint8_t width = set.width;
     if (form < 1 || form > 5) t.refusal = 1;
     else if (bad_width(width) || (form == SARVUNDOLE_MOF && width != 2)) t.refusal = 2;
+    else if (bad_set(set) || (form != SARVUNDOLE_WNAF && set.largest >= 1u << (width - 1))) t.refusal = 22;
     else if (bytes > SARVUNDOLE_MOST_BYTES) t.refusal = 3;
     else if (below && (t.refusal = outside(order, scalar, bytes, group, group_bytes))) return t;
     else if (places < 8 * bytes + 1) t.refusal = 4;
@@ -188,7 +221,8 @@ static inline sarvundole_tally recode_by(uint8_t form, uint8_t width, uint8_t or
     memset(digits, 0, 8 * bytes + 1);
     memset(marks, 0, SARVUNDOLE_MARK_WORDS * sizeof *marks);
     if (form == SARVUNDOLE_MOF) d = mof(d, order, scalar, bytes);
-    else if (form == SARVUNDOLE_WNAF) d = wnaf(d, order, scalar, bytes, width);
+    else if (form == SARVUNDOLE_WNAF && set.largest < 1u << (width - 1)) d = wnaf(d, order, scalar, bytes, width);
+    else if (form == SARVUNDOLE_WNAF) d = between(d, order, scalar, bytes, width, set.largest);
     else if (form == SARVUNDOLE_WMOF) d = sweep(d, order, scalar, bytes, width, 0);
     else d = closest(d, order, scalar, bytes, width, form == SARVUNDOLE_CLOSEST ? 2 : 1);
     t.weight = (uint16_t)d.weight;
@@ -196,14 +230,14 @@ static inline sarvundole_tally recode_by(uint8_t form, uint8_t width, uint8_t or
     return t;
 }
 
-sarvundole_tally baseline_recode(uint8_t form, uint8_t width, uint8_t order, const uint8_t *scalar, size_t bytes, int8_t *digits, size_t places,
+sarvundole_tally baseline_recode(uint8_t form, sarvundole_set set, uint8_t order, const uint8_t *scalar, size_t bytes, int8_t *digits, size_t places,
                                  uint64_t *marks, size_t words) {
-    return recode_by(form, width, order, scalar, bytes, 0, NULL, 0, digits, places, marks, words);
+    return recode_by(form, set, order, scalar, bytes, 0, NULL, 0, digits, places, marks, words);
 }
 
-sarvundole_tally baseline_recode_below(uint8_t form, uint8_t width, uint8_t order, const uint8_t *scalar, size_t bytes, const uint8_t *group, size_t group_bytes,
+sarvundole_tally baseline_recode_below(uint8_t form, sarvundole_set set, uint8_t order, const uint8_t *scalar, size_t bytes, const uint8_t *group, size_t group_bytes,
                                        int8_t *digits, size_t places, uint64_t *marks, size_t words) {
-    return recode_by(form, width, order, scalar, bytes, 1, group, group_bytes, digits, places, marks, words);
+    return recode_by(form, set, order, scalar, bytes, 1, group, group_bytes, digits, places, marks, words);
 }
 
 /* ---- digits as a whole. What these loops do at a digit is no branch, and each runs to the string's end, so that the compiler takes many digits at a time. */
@@ -213,13 +247,13 @@ typedef struct {
     unsigned weight, top;
 } scanned;
 
-/* Whether the digit is neither 0 nor odd and of absolute value below half; `most` is 2 * half - 2. */
+/* Whether the digit is neither 0 nor odd and of absolute value at most the largest digit; `most` is twice that. */
 static inline uint8_t bad_digit(uint8_t digit, uint8_t most) {
     return (uint8_t)((uint8_t)(digit + most / 2) > most) | (uint8_t)((digit != 0) & !(digit & 1));
 }
 
-static scanned scan(uint8_t width, const int8_t *digits, size_t places) {
-    const uint8_t most = (uint8_t)((1 << width) - 2), *bytes = (const uint8_t *)digits;
+static scanned scan(uint8_t largest, const int8_t *digits, size_t places) {
+    const uint8_t most = (uint8_t)(2 * largest), *bytes = (const uint8_t *)digits;
     scanned r = {0, 0, 0, 0};
     uint8_t bad = 0;
     for (size_t j = 0; j < places; j++) bad |= bad_digit(bytes[j], most);
@@ -274,13 +308,13 @@ static size_t near_place(unsigned w, const int8_t *digits) {
     }
 }
 
-static sarvundole_tally check(uint8_t width, uint8_t order, const uint8_t *scalar, size_t bytes, const int8_t *digits, size_t places) {
-    sarvundole_tally t = {0, 0, 0, 0};
-    if (bad_width(width)) t.refusal = 2;
-    else if (bytes > SARVUNDOLE_MOST_BYTES) t.refusal = 3;
+static sarvundole_tally check(sarvundole_set set, uint8_t order, const uint8_t *scalar, size_t bytes, const int8_t *digits, size_t places) {
+    sarvundole_tally t = {bad_set(set), 0, 0, 0};
+    if (t.refusal) return t;
+    if (bytes > SARVUNDOLE_MOST_BYTES) t.refusal = 3;
     else if (places > SARVUNDOLE_MOST_PLACES) t.refusal = 7;
     if (t.refusal) return t;
-    scanned found = scan(width, digits, places);
+    scanned found = scan(set.largest, digits, places);
     if (found.bad) {
         t.refusal = 8;
         t.place = (uint16_t)found.place;
@@ -293,14 +327,14 @@ static sarvundole_tally check(uint8_t width, uint8_t order, const uint8_t *scala
     return t;
 }
 
-sarvundole_tally baseline_check(uint8_t width, uint8_t order, const uint8_t *scalar, size_t bytes, const int8_t *digits, size_t places) {
-    return check(width, order, scalar, bytes, digits, places);
+sarvundole_tally baseline_check(sarvundole_set set, uint8_t order, const uint8_t *scalar, size_t bytes, const int8_t *digits, size_t places) {
+    return check(set, order, scalar, bytes, digits, places);
 }
 
-sarvundole_tally baseline_check_nonadjacent(uint8_t width, uint8_t order, const uint8_t *scalar, size_t bytes, const int8_t *digits, size_t places) {
-    sarvundole_tally t = check(width, order, scalar, bytes, digits, places);
-    if (t.refusal || apart(width, digits, places)) return t;
-    sarvundole_tally near = {10, (uint16_t)near_place(width, digits), 0, 0};
+sarvundole_tally baseline_check_nonadjacent(sarvundole_set set, uint8_t order, const uint8_t *scalar, size_t bytes, const int8_t *digits, size_t places) {
+    sarvundole_tally t = check(set, order, scalar, bytes, digits, places);
+    if (t.refusal || apart(set.width, digits, places)) return t;
+    sarvundole_tally near = {10, (uint16_t)near_place(set.width, digits), 0, 0};
     return near;
 }
 
@@ -311,12 +345,11 @@ static uint16_t word(unsigned code, int digit) {
     return (uint16_t)((code + (unsigned)minus) << 12 | (unsigned)((digit ^ -minus) + minus) / 2);
 }
 
-sarvundole_taped baseline_tape(uint8_t width, const int8_t *digits, size_t places, uint16_t *words, size_t room) {
-    sarvundole_taped t = {0, 0, 0, 0, 0};
-    if (bad_width(width)) t.refusal = 2;
-    else if (places > SARVUNDOLE_MOST_PLACES) t.refusal = 7;
+sarvundole_taped baseline_tape(sarvundole_set set, const int8_t *digits, size_t places, uint16_t *words, size_t room) {
+    sarvundole_taped t = {bad_set(set), 0, 0, 0, 0};
+    if (!t.refusal && places > SARVUNDOLE_MOST_PLACES) t.refusal = 7;
     if (t.refusal) return t;
-    scanned found = scan(width, digits, places);
+    scanned found = scan(set.largest, digits, places);
     if (found.bad) {
         t.refusal = 8;
         t.place = (uint16_t)found.place;
@@ -379,12 +412,12 @@ static sarvundole_ran reach(const uint16_t *tape, size_t words, uint32_t modulus
     return r;
 }
 
-sarvundole_ran baseline_run(uint8_t width, const uint16_t *tape, size_t words, uint32_t modulus, uint32_t base, uint32_t *multiples,
+sarvundole_ran baseline_run(sarvundole_set set, const uint16_t *tape, size_t words, uint32_t modulus, uint32_t base, uint32_t *multiples,
                             size_t room) {
-    sarvundole_ran r = {0, 0, 0, 0, 0, {0, 0}};
-    const size_t entries = bad_width(width) ? 0 : (size_t)1 << (width - 2);
-    if (!entries) r.refusal = 2;
-    else if (!modulus) r.refusal = 12;
+    sarvundole_ran r = {bad_set(set), 0, 0, 0, 0, {0, 0}};
+    const size_t entries = (set.largest + 1u) / 2;
+    if (r.refusal) return r;
+    if (!modulus) r.refusal = 12;
     else if (words > SARVUNDOLE_MOST_WORDS) r.refusal = 13;
     else if (room < entries) r.refusal = 14;
     if (r.refusal) return r;

@@ -4,14 +4,14 @@
 
 #include "sarvundole.h"
 
-sarvundole_tally baseline_recode(uint8_t form, uint8_t width, uint8_t order, const uint8_t *scalar, size_t bytes, int8_t *digits, size_t places,
+sarvundole_tally baseline_recode(uint8_t form, sarvundole_set set, uint8_t order, const uint8_t *scalar, size_t bytes, int8_t *digits, size_t places,
                                  uint64_t *marks, size_t words);
-sarvundole_tally baseline_recode_below(uint8_t form, uint8_t width, uint8_t order, const uint8_t *scalar, size_t bytes, const uint8_t *group, size_t group_bytes,
+sarvundole_tally baseline_recode_below(uint8_t form, sarvundole_set set, uint8_t order, const uint8_t *scalar, size_t bytes, const uint8_t *group, size_t group_bytes,
                                        int8_t *digits, size_t places, uint64_t *marks, size_t words);
-sarvundole_tally baseline_check(uint8_t width, uint8_t order, const uint8_t *scalar, size_t bytes, const int8_t *digits, size_t places);
-sarvundole_tally baseline_check_nonadjacent(uint8_t width, uint8_t order, const uint8_t *scalar, size_t bytes, const int8_t *digits, size_t places);
-sarvundole_taped baseline_tape(uint8_t width, const int8_t *digits, size_t places, uint16_t *words, size_t room);
-sarvundole_ran baseline_run(uint8_t width, const uint16_t *tape, size_t words, uint32_t modulus, uint32_t base, uint32_t *multiples,
+sarvundole_tally baseline_check(sarvundole_set set, uint8_t order, const uint8_t *scalar, size_t bytes, const int8_t *digits, size_t places);
+sarvundole_tally baseline_check_nonadjacent(sarvundole_set set, uint8_t order, const uint8_t *scalar, size_t bytes, const int8_t *digits, size_t places);
+sarvundole_taped baseline_tape(sarvundole_set set, const int8_t *digits, size_t places, uint16_t *words, size_t room);
+sarvundole_ran baseline_run(sarvundole_set set, const uint16_t *tape, size_t words, uint32_t modulus, uint32_t base, uint32_t *multiples,
                             size_t room);
 sarvundole_joined baseline_joint(uint8_t order, const uint8_t *a, size_t a_bytes, const uint8_t *b, size_t b_bytes, int8_t *first, size_t first_places, int8_t *second,
                                  size_t second_places, uint16_t *words, size_t room);

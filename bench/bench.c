@@ -16,7 +16,8 @@ enum { INPUTS = 512, COUNTED = 128, TURNS = 101, AGREED = 20000, ROOM_PLACES = 6
 
 /* One call's input and the memory that it is lent. */
 typedef struct {
-    uint8_t form, width, order;
+    sarvundole_set set;
+    uint8_t form, order;
     uint8_t scalar[80], other[80], group[80];
     size_t bytes, other_bytes, group_bytes, places, other_places, words, room, marks_room, multiples_room, line_room, characters;
     uint32_t modulus, base, second;
@@ -45,25 +46,28 @@ static void tally(output *out, sarvundole_tally t) {
 }
 
 static void recode(const input *in, output *out, int library) {
-    tally(out, (library ? sarvundole_recode : baseline_recode)(in->form, in->width, in->order, in->scalar, in->bytes, out->digits, in->places, out->marks,
+    tally(out, (library ? sarvundole_recode : baseline_recode)(in->form, in->set, in->order, in->scalar, in->bytes, out->digits, in->places, out->marks,
                                                                in->marks_room));
 }
 
+/* The same call in the set in the middle between the width and the next. */
+static void recode_between(const input *in, output *out, int library) { recode(in, out, library); }
+
 static void recode_below(const input *in, output *out, int library) {
-    tally(out, (library ? sarvundole_recode_below : baseline_recode_below)(in->form, in->width, in->order, in->scalar, in->bytes, in->group, in->group_bytes,
+    tally(out, (library ? sarvundole_recode_below : baseline_recode_below)(in->form, in->set, in->order, in->scalar, in->bytes, in->group, in->group_bytes,
                                                                            out->digits, in->places, out->marks, in->marks_room));
 }
 
 static void check(const input *in, output *out, int library) {
-    tally(out, (library ? sarvundole_check : baseline_check)(in->width, in->order, in->scalar, in->bytes, in->digits, in->places));
+    tally(out, (library ? sarvundole_check : baseline_check)(in->set, in->order, in->scalar, in->bytes, in->digits, in->places));
 }
 
 static void check_nonadjacent(const input *in, output *out, int library) {
-    tally(out, (library ? sarvundole_check_nonadjacent : baseline_check_nonadjacent)(in->width, in->order, in->scalar, in->bytes, in->digits, in->places));
+    tally(out, (library ? sarvundole_check_nonadjacent : baseline_check_nonadjacent)(in->set, in->order, in->scalar, in->bytes, in->digits, in->places));
 }
 
 static void tape(const input *in, output *out, int library) {
-    sarvundole_taped t = (library ? sarvundole_tape : baseline_tape)(in->width, in->digits, in->places, out->words, in->room);
+    sarvundole_taped t = (library ? sarvundole_tape : baseline_tape)(in->set, in->digits, in->places, out->words, in->room);
     out->fields[0] = t.refusal, out->fields[1] = t.place, out->fields[2] = t.words, out->fields[3] = t.doublings, out->fields[4] = t.additions;
 }
 
@@ -73,7 +77,7 @@ static void ran(output *out, sarvundole_ran r) {
 }
 
 static void run(const input *in, output *out, int library) {
-    ran(out, (library ? sarvundole_run : baseline_run)(in->width, in->tape, in->words, in->modulus, in->base, out->multiples, in->multiples_room));
+    ran(out, (library ? sarvundole_run : baseline_run)(in->set, in->tape, in->words, in->modulus, in->base, out->multiples, in->multiples_room));
 }
 
 static void joint(const input *in, output *out, int library) {
@@ -88,7 +92,7 @@ static void run_joint(const input *in, output *out, int library) {
 }
 
 static void read_at(const input *in, output *out, int library) {
-    sarvundole_reading r = (library ? sarvundole_read_at : baseline_read_at)(in->width, in->order, in->scalar, in->bytes, in->calls);
+    sarvundole_reading r = (library ? sarvundole_read_at : baseline_read_at)(in->set.width, in->order, in->scalar, in->bytes, in->calls);
     out->fields[0] = r.refusal, out->fields[1] = r.given, out->fields[2] = (uint32_t)r.digit;
 }
 
@@ -106,7 +110,7 @@ static void reader_is(output *out, sarvundole_reader r) {
 
 /* A whole sequence: the start, and as many calls as are asked for and one more. */
 static void reader_next(const input *in, output *out, int library) {
-    sarvundole_reader reader = (library ? sarvundole_reader_start : baseline_reader_start)(in->width, in->order, in->scalar, in->bytes);
+    sarvundole_reader reader = (library ? sarvundole_reader_start : baseline_reader_start)(in->set.width, in->order, in->scalar, in->bytes);
     for (size_t i = 0; i <= in->calls; i++) reader = next(in, out, library, reader, i);
     reader_is(out, reader);
 }
@@ -115,7 +119,7 @@ static void reader_next(const input *in, output *out, int library) {
 static void reader_next_on_any(const input *in, output *out, int library) { reader_is(out, next(in, out, library, in->reader, 0)); }
 
 static void search(const input *in, output *out, int library) {
-    sarvundole_searched r = (library ? sarvundole_search : baseline_search)(in->base, in->width);
+    sarvundole_searched r = (library ? sarvundole_search : baseline_search)(in->base, in->set.width);
     out->fields[0] = r.refusal, out->fields[1] = r.weight;
 }
 
@@ -149,16 +153,16 @@ static uint32_t chance(uint32_t below) {
 static uint32_t any32(void) { return chance(65536) << 16 | chance(65536); }
 
 /* An input that the calls accept: a random scalar below an order of bytes FF, its string in a form, and that string's tape; another scalar, and the tape of both. */
-static void accepted(input *in, uint8_t form, uint8_t width, uint8_t order, size_t bytes) {
+static void accepted(input *in, uint8_t form, sarvundole_set set, uint8_t order, size_t bytes) {
     uint64_t marks[SARVUNDOLE_MARK_WORDS];
     memset(in, 0, sizeof *in);
-    in->form = form, in->width = width, in->order = order, in->bytes = bytes;
+    in->form = form, in->set = set, in->order = order, in->bytes = bytes;
     for (size_t i = 0; i < bytes; i++) in->scalar[i] = (uint8_t)chance(256);
     memset(in->group, 0xFF, in->group_bytes = bytes);
     in->places = 8 * bytes + 1, in->room = ROOM_WORDS, in->marks_room = SARVUNDOLE_MARK_WORDS, in->multiples_room = ROOM_MULTIPLES;
     in->modulus = any32() | 1, in->base = any32(), in->calls = (uint16_t)(8 * bytes);
-    baseline_recode(form, width, order, in->scalar, bytes, in->digits, in->places, marks, SARVUNDOLE_MARK_WORDS);
-    in->words = baseline_tape(width, in->digits, in->places, in->tape, ROOM_WORDS).words;
+    baseline_recode(form, set, order, in->scalar, bytes, in->digits, in->places, marks, SARVUNDOLE_MARK_WORDS);
+    in->words = baseline_tape(set, in->digits, in->places, in->tape, ROOM_WORDS).words;
     in->line_room = ROOM_LINE;
     for (size_t i = 0; i < bytes; i++) in->other[i] = (uint8_t)chance(256);
     in->other_bytes = bytes, in->other_places = in->places, in->second = any32();
@@ -179,10 +183,17 @@ static void near(input *in) {
     if (!chance(8)) in->group_bytes = chance(sizeof in->group);
 }
 
+/* A set of a whole width or, for form 2, of one in between. */
+static sarvundole_set any_set(uint8_t form) {
+    sarvundole_set set = sarvundole_whole((uint8_t)(form == 1 ? 2 : 2 + chance(7)));
+    if (form == 2 && set.width < 8 && chance(2)) set.largest = (uint8_t)(set.largest + 2 * chance((set.largest + 3u) / 2));
+    return set;
+}
+
 /* The same with a fault here and there, so that each refusal comes up. */
 static void any(input *in) {
     uint8_t form = (uint8_t)(1 + chance(5));
-    accepted(in, form, (uint8_t)(form == 1 ? 2 : 2 + chance(7)), (uint8_t)(chance(2) ? 0 : chance(256)), chance(SARVUNDOLE_MOST_BYTES + 1));
+    accepted(in, form, any_set(form), (uint8_t)(chance(2) ? 0 : chance(256)), chance(SARVUNDOLE_MOST_BYTES + 1));
     in->calls = (uint16_t)chance(600);
     if (!chance(4)) in->base = chance(140);
     in->reader = (sarvundole_reader){(uint16_t)chance(600), (uint16_t)chance(600), (uint16_t)chance(600), (uint8_t)chance(11), (int8_t)chance(256), 0, (uint8_t)chance(3)};
@@ -190,7 +201,7 @@ static void any(input *in) {
     if (!chance(2)) near(in);
     switch (chance(20)) {
     case 0: in->form = (uint8_t)chance(256); break;
-    case 1: in->width = (uint8_t)chance(11); break;
+    case 1: in->set.width = (uint8_t)chance(11); break;
     case 2: in->bytes = chance(80); break;
     case 3: in->places = chance(ROOM_PLACES); break;
     case 4: in->marks_room = chance(ROOM_MARKS); break;
@@ -205,6 +216,7 @@ static void any(input *in) {
     case 13: in->other_bytes = chance(80); break;
     case 14: in->other_places = chance(ROOM_PLACES); break;
     case 15: in->joint[chance((uint32_t)in->joint_words + 1)] = (uint16_t)chance(65536); break;
+    case 16: in->set.largest = (uint8_t)chance(256); break;
     default: break;
     }
     framed(in, (uint8_t)(1 + chance(2)));
@@ -269,20 +281,20 @@ static double batch(job *call, const input *ins, output *out, int library, int t
 }
 
 /* The inputs of a case: the same ones each time. The search takes every number in turn, and no scalar. */
-static void prepare(input *ins, int count, job *call, uint8_t form, uint8_t width, uint8_t order, size_t bytes) {
+static void prepare(input *ins, int count, job *call, uint8_t form, sarvundole_set set, uint8_t order, size_t bytes) {
     state = 1;
     for (int i = 0; i < count; i++) {
-        accepted(&ins[i], form, width, order, bytes);
+        accepted(&ins[i], form, set, order, bytes);
         if (call == search) ins[i].base = (uint32_t)(i % 128);
         framed(&ins[i], call == read_1 ? 1 : 2);
     }
 }
 
-static void time_one(const char *name, job *call, uint8_t form, uint8_t width, uint8_t order, size_t bytes) {
+static void time_one(const char *name, job *call, uint8_t form, sarvundole_set set, uint8_t order, size_t bytes) {
     static input ins[INPUTS];
     static output out;
     double ours[TURNS], theirs[TURNS], ratios[TURNS];
-    prepare(ins, INPUTS, call, form, width, order, bytes);
+    prepare(ins, INPUTS, call, form, set, order, bytes);
     int times = 1;
     while (times < 1024 && batch(call, ins, &out, 0, times) * times * INPUTS < 1e5) times *= 2;
     for (int t = 0; t < TURNS; t++)
@@ -291,7 +303,7 @@ static void time_one(const char *name, job *call, uint8_t form, uint8_t width, u
             (library ? ours : theirs)[t] = batch(call, ins, &out, library, times);
         }
     for (int t = 0; t < TURNS; t++) ratios[t] = ours[t] / theirs[t];
-    printf("%s\t%d\t%zu\t%.3f\t%.1f\t%.1f\n", name, width, bytes, median(ratios), least(ours), least(theirs));
+    printf("%s\t%d\t%zu\t%.3f\t%.1f\t%.1f\n", name, set.width, bytes, median(ratios), least(ours), least(theirs));
 }
 
 /* ---- counting */
@@ -299,13 +311,13 @@ __attribute__((noinline)) void counted(job *call, const input *ins, output *out,
     for (int i = 0; i < COUNTED; i++) call(&ins[i], out, library);
 }
 
-static void count_one(const char *name, job *call, uint8_t form, uint8_t width, uint8_t order, size_t bytes) {
+static void count_one(const char *name, job *call, uint8_t form, sarvundole_set set, uint8_t order, size_t bytes) {
     static input ins[COUNTED];
     static output out;
-    prepare(ins, COUNTED, call, form, width, order, bytes);
+    prepare(ins, COUNTED, call, form, set, order, bytes);
     for (int library = 0; library < 2; library++) {
         counted(call, ins, &out, library);
-        printf("%s\t%d\t%zu\t%s\n", name, width, bytes, library ? "library" : "baseline");
+        printf("%s\t%d\t%zu\t%s\n", name, set.width, bytes, library ? "library" : "baseline");
     }
 }
 
@@ -340,6 +352,7 @@ int main(int words, char **given) {
         {"joint", joint, 2, 0, {2}},
         {"run_joint", run_joint, 2, 0, {2}},
         {"joint, lowest first", joint, 2, 1, {2}},
+        {"recode wNAF, in between", recode_between, 2, 0, {4, 7}},
         {"recode MOF, lowest first", recode, 1, 1, {2}},
         {"recode wNAF, lowest first", recode, 2, 1, {4, 8}},
         {"recode wMOF, lowest first", recode, 3, 1, {4, 8}},
@@ -362,8 +375,10 @@ int main(int words, char **given) {
                 const row *r = &calls[c];
                 if (r->call == search && l > 0) continue;
                 const size_t bytes = r->call == search ? 0 : lengths[l];
-                if (counting && (!bytes || bytes == 32 || bytes == 66)) count_one(r->name, r->call, r->form, *width, r->order, bytes);
-                if (!counting && (!r->widths[2] || *width == 4 || *width == 8)) time_one(r->name, r->call, r->form, *width, r->order, bytes);
+                sarvundole_set set = sarvundole_whole(*width);
+                if (r->call == recode_between) set.largest = (uint8_t)(3 * set.largest / 2 + 1);
+                if (counting && (!bytes || bytes == 32 || bytes == 66)) count_one(r->name, r->call, r->form, set, r->order, bytes);
+                if (!counting && (!r->widths[2] || *width == 4 || *width == 8)) time_one(r->name, r->call, r->form, set, r->order, bytes);
             }
     return 0;
 }

@@ -64,23 +64,23 @@ int main(int count, char **given) {
     const size_t bytes = bytes_of(count > 1 ? given[2] : "0D", scalar), places = 8 * bytes + 1;
 
     sarvundole_tally recoded =
-        count == 4 ? sarvundole_recode_below(SARVUNDOLE_WNAF, width, SARVUNDOLE_HIGHEST_FIRST, scalar, bytes, group, bytes_of(given[3], group), digits, places, marks, SARVUNDOLE_MARK_WORDS)
-                   : sarvundole_recode(SARVUNDOLE_WNAF, width, SARVUNDOLE_HIGHEST_FIRST, scalar, bytes, digits, places, marks, SARVUNDOLE_MARK_WORDS);
+        count == 4 ? sarvundole_recode_below(SARVUNDOLE_WNAF, sarvundole_whole(width), SARVUNDOLE_HIGHEST_FIRST, scalar, bytes, group, bytes_of(given[3], group), digits, places, marks, SARVUNDOLE_MARK_WORDS)
+                   : sarvundole_recode(SARVUNDOLE_WNAF, sarvundole_whole(width), SARVUNDOLE_HIGHEST_FIRST, scalar, bytes, digits, places, marks, SARVUNDOLE_MARK_WORDS);
     ended(count == 4 ? "recode_below" : "recode", recoded.refusal, recoded.place);
     printf("digits, highest place first:");
     for (size_t j = recoded.top; j-- > 0;) printf(" %d", digits[j]);
     printf("\nweight %u, top %u\n", recoded.weight, recoded.top);
 
-    sarvundole_tally checked = sarvundole_check_nonadjacent(width, SARVUNDOLE_HIGHEST_FIRST, scalar, bytes, digits, places);
+    sarvundole_tally checked = sarvundole_check_nonadjacent(sarvundole_whole(width), SARVUNDOLE_HIGHEST_FIRST, scalar, bytes, digits, places);
     ended("check_nonadjacent", checked.refusal, checked.place);
     printf("checked: worth the number, and nonzero digits at least %u places apart\n", width);
 
-    sarvundole_taped taped = sarvundole_tape(width, digits, places, words, SARVUNDOLE_MOST_WORDS);
+    sarvundole_taped taped = sarvundole_tape(sarvundole_whole(width), digits, places, words, SARVUNDOLE_MOST_WORDS);
     ended("tape", taped.refusal, taped.place);
     printf("tape of %u words:\n", taped.words);
     for (size_t i = 0; i < taped.words; i++) print_word(words[i]);
 
-    sarvundole_ran ran = sarvundole_run(width, words, taped.words, MODULUS, BASE, multiples, SARVUNDOLE_MOST_MULTIPLES);
+    sarvundole_ran ran = sarvundole_run(sarvundole_whole(width), words, taped.words, MODULUS, BASE, multiples, SARVUNDOLE_MOST_MULTIPLES);
     ended("run", ran.refusal, ran.place);
     printf("doublings %u, additions %u; of the multiples: doublings %u, additions %u\n", ran.doublings, ran.additions, ran.cost.doublings, ran.cost.additions);
     printf("residue %lu of the number times %lu modulo %lu\n", (unsigned long)ran.residue, (unsigned long)BASE, (unsigned long)MODULUS);

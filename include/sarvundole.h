@@ -3,7 +3,9 @@
  *
  * Scalars come as bytes, 0 to 66 of them, in either order: each call on a scalar is told which byte comes first, 0 for the highest, anything
  * else for the lowest. L bytes have n = 8L bits. A width w is 2 to 8. The digits of width w are 0 and
- * the odd numbers of absolute value below 2^(w-1). A string has place 0 first in its buffer, place j is worth 2^j, and each place is
+ * the odd numbers of absolute value below 2^(w-1). A digit set has a width w, by which nonzero digits stand apart, and a largest digit
+ * m: its digits are 0 and the odd numbers of absolute value up to m. m is odd, from 2^(w-1) - 1, the largest digit of width w, to
+ * 2^w - 1; at width 8 it is 127. A string has place 0 first in its buffer, place j is worth 2^j, and each place is
  * a signed byte. A recoded string has exactly n + 1 places, at most 529. A tape has at most 1,057 words.
  *
  * Every call takes every input. It answers with `refusal` 0, or with the number of the first rule that the input breaks, tried in
@@ -27,7 +29,7 @@
 #include <stdint.h>
 
 /* This header's version. */
-#define SARVUNDOLE_VERSION "2.2.0"
+#define SARVUNDOLE_VERSION "3.0.0"
 
 #ifdef __cplusplus
 extern "C" {
@@ -48,7 +50,7 @@ enum sarvundole_form {
     SARVUNDOLE_CLOSEST_SMALLER = 5 /* the same, on a tie the one of smaller absolute value */
 };
 
-/* The refusals. 6 was struck, since n + 1 places always suffice, and is not used again; 17, 22 and 23 no call gives. */
+/* The refusals. 6 was struck, since n + 1 places always suffice, and is not used again; 17 and 23 no call gives. */
 enum sarvundole_refusal {
     SARVUNDOLE_ACCEPTED = 0,
     SARVUNDOLE_BAD_FORM = 1,         /* form is not 1..5 */
@@ -57,19 +59,20 @@ enum sarvundole_refusal {
     SARVUNDOLE_FEW_PLACES = 4,       /* digit buffer under n + 1 places; in read, under the place count */
     SARVUNDOLE_FEW_MARKS = 5,        /* marks buffer under 9 words */
     SARVUNDOLE_LONG_STRING = 7,      /* digit string over 529 places */
-    SARVUNDOLE_BAD_DIGIT = 8,        /* a digit not of the width; place is the lowest such */
+    SARVUNDOLE_BAD_DIGIT = 8,        /* a digit not of the set; place is the lowest such */
     SARVUNDOLE_OTHER_WORTH = 9,      /* string not worth the scalar */
     SARVUNDOLE_NEAR_DIGITS = 10,     /* two nonzero digits fewer than w places apart; place is the lower of the lowest such pair */
     SARVUNDOLE_SHORT_TAPE = 11,      /* tape buffer too short for all its words */
     SARVUNDOLE_ZERO_MODULUS = 12,    /* modulus 0 */
     SARVUNDOLE_LONG_TAPE = 13,       /* tape over 1,057 words */
-    SARVUNDOLE_FEW_MULTIPLES = 14,   /* multiples buffer under 2^(w-2) entries; in run_joint, under 4 */
+    SARVUNDOLE_FEW_MULTIPLES = 14,   /* multiples buffer under (m + 1) / 2 entries, which are 2^(w-2) at a whole width; in run_joint, under 4 */
     SARVUNDOLE_BAD_WORD = 15,        /* a bad word; place is the first such */
     SARVUNDOLE_MALFORMED = 16,       /* line not all hexadecimal, not opening with 00 or A2, or lacking a field or part of one */
     SARVUNDOLE_UNEQUAL_SCALARS = 18, /* scalars of unequal lengths */
     SARVUNDOLE_BAD_GROUP = 19,       /* group order empty, worth zero or over 66 bytes */
     SARVUNDOLE_NOT_BELOW = 20,       /* scalar not below the group order, as numbers */
     SARVUNDOLE_UNFIT_FRAME = 21,     /* places not rising, a zero digit, a place not below the count, or weight or top that does not fit */
+    SARVUNDOLE_BAD_SET = 22,         /* directly after 2: no digit set has this width and largest digit, or not the whole width's where the form is not 2 */
     SARVUNDOLE_SHORT_LINE = 24       /* line buffer too short */
 };
 
@@ -83,7 +86,7 @@ static inline const char *sarvundole_refusal_words(unsigned refusal) {
     case SARVUNDOLE_FEW_PLACES: return "the digit buffer is too short";
     case SARVUNDOLE_FEW_MARKS: return "the marks buffer is under 9 words";
     case SARVUNDOLE_LONG_STRING: return "the digit string is over 529 places";
-    case SARVUNDOLE_BAD_DIGIT: return "a digit is not of the width";
+    case SARVUNDOLE_BAD_DIGIT: return "a digit is not of the set";
     case SARVUNDOLE_OTHER_WORTH: return "the string is not worth the scalar";
     case SARVUNDOLE_NEAR_DIGITS: return "two nonzero digits stand too near";
     case SARVUNDOLE_SHORT_TAPE: return "the tape buffer is too short";
@@ -96,6 +99,7 @@ static inline const char *sarvundole_refusal_words(unsigned refusal) {
     case SARVUNDOLE_BAD_GROUP: return "the group order is empty, worth zero or over 66 bytes";
     case SARVUNDOLE_NOT_BELOW: return "the scalar is not below the group order";
     case SARVUNDOLE_UNFIT_FRAME: return "the parts of the frame do not fit together";
+    case SARVUNDOLE_BAD_SET: return "no digit set has this width and largest digit, or the form needs a whole width";
     case SARVUNDOLE_SHORT_LINE: return "the line buffer is too short";
     default: return "no refusal of this library";
     }
@@ -113,6 +117,20 @@ static inline const char *sarvundole_refusal_words(unsigned refusal) {
 #define SARVUNDOLE_JOINT_ENTRIES 4
 #define SARVUNDOLE_MOST_PLAIN_LINE 1068  /* characters of version 1 */
 #define SARVUNDOLE_MOST_LINE 3188        /* characters of either version */
+
+/* A digit set: its width and its largest digit. Sets between two widths have form 2 alone; the chip holds (largest + 1) / 2 multiples. */
+typedef struct sarvundole_set {
+    uint8_t width;
+    uint8_t largest;
+} sarvundole_set;
+
+/* The set of a whole width. Of a byte that is no width it has that byte, and 2 is given. */
+static inline sarvundole_set sarvundole_whole(uint8_t width) {
+    sarvundole_set set;
+    set.width = width;
+    set.largest = (uint8_t)(width < SARVUNDOLE_LEAST_WIDTH || width > SARVUNDOLE_MOST_WIDTH ? 0 : (1u << (width - 1)) - 1);
+    return set;
+}
 
 /* What recode and the checks answer: the weight is the number of nonzero digits, the top 1 + the highest nonzero place, 0 if none. */
 typedef struct sarvundole_tally {
@@ -132,7 +150,7 @@ typedef struct sarvundole_taped {
 } sarvundole_taped;
 
 /* What the multiples cost: to make 3g, 5g and so on from g, it is doubled once, and that double added for each. One doubling, or 0 where g is
- * the only multiple, at width 2; 2^(w-2) - 1 additions. */
+ * the only multiple, with the largest digit 1; one addition fewer than there are multiples, 2^(w-2) - 1 at a whole width. */
 typedef struct sarvundole_cost {
     uint16_t doublings;
     uint16_t additions;
@@ -210,34 +228,35 @@ typedef struct sarvundole_parsed {
 } sarvundole_parsed;
 
 /* Recodes any scalar, whatever its group: for tests. A check number is one only below its group's order: sarvundole_recode_below. Writes its n + 1 digits, and marks nonzero places in nine 64-bit words: bit j mod 64 of word j / 64 is set exactly
- * when place j is nonzero. Lent: the scalar; for writing, at least n + 1 places and 9 words. Refusals: 1, 2, 3, 4, 5. */
-sarvundole_tally sarvundole_recode(uint8_t form, uint8_t width, uint8_t order, const uint8_t *scalar, size_t bytes, int8_t *digits,
+ * when place j is nonzero. Lent: the scalar; for writing, at least n + 1 places and 9 words. Form 2 in a set: at an
+ * odd remaining number its signed residue modulo 2^(w+1) if that is of the set, else the one modulo 2^w. Refusals, tried in this order: 1, 2, 22, 3, 4, 5. */
+sarvundole_tally sarvundole_recode(uint8_t form, sarvundole_set set, uint8_t order, const uint8_t *scalar, size_t bytes, int8_t *digits,
                                    size_t places, uint64_t *marks, size_t words);
 
 /* Recodes a check number: a scalar below the order of its group. The order comes highest byte first, whatever the scalar's order of bytes, in 1 to 66 bytes; the two
  * are compared as numbers, whatever their lengths and the bytes of nought before them. Accepted, it answers and writes exactly what sarvundole_recode does. Lent:
- * the scalar and the group order; for writing, at least n + 1 places and 9 words. Refusals, tried in this order: 1, 2, 3, 19, 20, 4, 5. */
-sarvundole_tally sarvundole_recode_below(uint8_t form, uint8_t width, uint8_t order, const uint8_t *scalar, size_t bytes, const uint8_t *group,
+ * the scalar and the group order; for writing, at least n + 1 places and 9 words. Refusals, tried in this order: 1, 2, 22, 3, 19, 20, 4, 5. */
+sarvundole_tally sarvundole_recode_below(uint8_t form, sarvundole_set set, uint8_t order, const uint8_t *scalar, size_t bytes, const uint8_t *group,
                                          size_t group_bytes, int8_t *digits, size_t places, uint64_t *marks, size_t words);
 
-/* Says yes exactly when the digits are of the width and the string, of 0 to 529 places, is worth the scalar. Nothing is written.
- * Lent: the scalar and the string. Refusals: 2, 3, 7, 8, 9. */
-sarvundole_tally sarvundole_check(uint8_t width, uint8_t order, const uint8_t *scalar, size_t bytes, const int8_t *digits, size_t places);
+/* Says yes exactly when the digits are of the set and the string, of 0 to 529 places, is worth the scalar. Nothing is written.
+ * Lent: the scalar and the string. Refusals, tried in this order: 2, 22, 3, 7, 8, 9. */
+sarvundole_tally sarvundole_check(sarvundole_set set, uint8_t order, const uint8_t *scalar, size_t bytes, const int8_t *digits, size_t places);
 
-/* The same, and no two nonzero digits stand fewer than w places apart. Refusals: 2, 3, 7, 8, 9, 10. */
-sarvundole_tally sarvundole_check_nonadjacent(uint8_t width, uint8_t order, const uint8_t *scalar, size_t bytes, const int8_t *digits,
+/* The same, and no two nonzero digits stand fewer than w places apart, w the set's width. Refusals, tried in this order: 2, 22, 3, 7, 8, 9, 10. */
+sarvundole_tally sarvundole_check_nonadjacent(sarvundole_set set, uint8_t order, const uint8_t *scalar, size_t bytes, const int8_t *digits,
                                               size_t places);
 
 /* Turns a string into a step tape. A word is 16 bits: the code in the top four, the entry e in the low twelve, e standing for the odd
  * multiple 2e + 1. Codes: 0 double (e is 0), 1 load, 2 load negated, 3 add, 4 subtract. The highest nonzero digit gives a load; each
  * lower place a double, followed by an add or subtract if its digit is nonzero. A zero string gives no words. No word beyond the count
- * is written. Lent: the string; for writing, room for all the words. Refusals: 2, 7, 8, 11; 11 does not tell how many there are. */
-sarvundole_taped sarvundole_tape(uint8_t width, const int8_t *digits, size_t places, uint16_t *words, size_t room);
+ * is written. Lent: the string; for writing, room for all the words. Refusals, tried in this order: 2, 22, 7, 8, 11; 11 does not tell how many there are. */
+sarvundole_taped sarvundole_tape(sarvundole_set set, const int8_t *digits, size_t places, uint16_t *words, size_t room);
 
 /* Runs a tape over residues. All its words are judged before a multiple is stored; then the multiples (2e + 1) * base mod modulus are
- * stored, 2^(w-2) of them, for an empty tape too. The residue is the least nonnegative one of the tape's value times the base; an empty
- * tape gives 0. Lent: the tape; for writing, at least 2^(w-2) multiples. Refusals: 2, 12, 13, 14, 15. */
-sarvundole_ran sarvundole_run(uint8_t width, const uint16_t *tape, size_t words, uint32_t modulus, uint32_t base, uint32_t *multiples,
+ * stored, (largest + 1) / 2 of them, for an empty tape too. The residue is the least nonnegative one of the tape's value times the base; an empty
+ * tape gives 0. Lent: the tape; for writing, at least so many multiples. Refusals, tried in this order: 2, 22, 12, 13, 14, 15. */
+sarvundole_ran sarvundole_run(sarvundole_set set, const uint16_t *tape, size_t words, uint32_t modulus, uint32_t base, uint32_t *multiples,
                               size_t room);
 
 /* Writes the joint sparse form of two scalars of equal length, told in one order of bytes: two rows of digits -1, 0, 1, n + 1 places each, the first worth a, the

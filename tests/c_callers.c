@@ -72,12 +72,19 @@ static void given_back(memory *m) {
 static const uint8_t *frame;
 static size_t left;
 static uint8_t order; /* of the scalar's bytes: 0, or any other byte */
+static int between;   /* whether a largest digit follows the width */
 
 static uint32_t take(size_t size) {
     uint32_t n = 0;
     if (left < size) abort();
     for (left -= size; size > 0; size--) n = n << 8 | *frame++;
     return n;
+}
+
+static sarvundole_set take_set(void) {
+    sarvundole_set set = sarvundole_whole((uint8_t)take(1));
+    if (between) set.largest = (uint8_t)take(1);
+    return set;
 }
 
 static uint8_t answer[MOST_ANSWER];
@@ -101,11 +108,12 @@ static void put_tally(sarvundole_tally t) { put(t.refusal, 1), put(t.place, 2), 
 
 /* ---- calls */
 static void recode(int at_end) {
-    uint8_t form = (uint8_t)take(1), width = (uint8_t)take(1);
+    uint8_t form = (uint8_t)take(1);
+    sarvundole_set set = take_set();
     size_t places = take(2), count = take(1), bytes = left;
     int8_t *d = lend_to_write(&digits, places, 1, 0x5A, at_end);
     uint64_t *m = lend_to_write(&marks, count, 8, 0xA5A5A5A5A5A5A5A5u, at_end);
-    put_tally(sarvundole_recode(form, width, order, lend(&scalars, bytes, at_end, frame), bytes, d, places, m, count));
+    put_tally(sarvundole_recode(form, set, order, lend(&scalars, bytes, at_end, frame), bytes, d, places, m, count));
     given_back(&scalars);
     put_lent(&digits, 1);
     put_lent(&marks, 8);
@@ -113,16 +121,17 @@ static void recode(int at_end) {
 
 /* What is accepted has to be what the plain call gives. */
 static void recode_below(int at_end) {
-    uint8_t form = (uint8_t)take(1), width = (uint8_t)take(1);
+    uint8_t form = (uint8_t)take(1);
+    sarvundole_set set = take_set();
     size_t places = take(2), count = take(1), group_bytes = take(1), bytes = left - group_bytes;
     int8_t *d = lend_to_write(&digits, places, 1, 0x5A, at_end), plain_digits[1024];
     uint64_t *m = lend_to_write(&marks, count, 8, 0xA5A5A5A5A5A5A5A5u, at_end), plain_marks[256];
     const uint8_t *g = lend(&groups, group_bytes, at_end, frame), *s = lend(&scalars, bytes, at_end, frame + group_bytes);
     memset(plain_digits, 0x5A, sizeof plain_digits);
     memset(plain_marks, 0xA5, sizeof plain_marks);
-    sarvundole_tally t = sarvundole_recode_below(form, width, order, s, bytes, g, group_bytes, d, places, m, count);
+    sarvundole_tally t = sarvundole_recode_below(form, set, order, s, bytes, g, group_bytes, d, places, m, count);
     if (t.refusal == 0) {
-        sarvundole_tally p = sarvundole_recode(form, width, order, s, bytes, plain_digits, places, plain_marks, count);
+        sarvundole_tally p = sarvundole_recode(form, set, order, s, bytes, plain_digits, places, plain_marks, count);
         if (p.refusal || p.place != t.place || p.weight != t.weight || p.top != t.top) refuse("the plain call answers otherwise");
         if (memcmp(plain_digits, d, places) || memcmp(plain_marks, m, 8 * count)) refuse("the plain call writes otherwise");
     }
@@ -134,20 +143,20 @@ static void recode_below(int at_end) {
 }
 
 static void check(int at_end, int nonadjacent) {
-    uint8_t width = (uint8_t)take(1);
+    sarvundole_set set = take_set();
     size_t bytes = take(1), places = left - bytes;
     const uint8_t *s = lend(&scalars, bytes, at_end, frame);
     const int8_t *d = lend(&strings, places, at_end, frame + bytes);
-    put_tally((nonadjacent ? sarvundole_check_nonadjacent : sarvundole_check)(width, order, s, bytes, d, places));
+    put_tally((nonadjacent ? sarvundole_check_nonadjacent : sarvundole_check)(set, order, s, bytes, d, places));
     given_back(&scalars);
     given_back(&strings);
 }
 
 static void tape(int at_end) {
-    uint8_t width = (uint8_t)take(1);
+    sarvundole_set set = take_set();
     size_t room = take(2), places = left;
     uint16_t *w = lend_to_write(&words, room, 2, 0xEEEE, at_end);
-    sarvundole_taped t = sarvundole_tape(width, lend(&strings, places, at_end, frame), places, w, room);
+    sarvundole_taped t = sarvundole_tape(set, lend(&strings, places, at_end, frame), places, w, room);
     if (t.words != (t.words == 0 ? 0 : t.doublings + t.additions + 1)) refuse("a tape has not top - 1 + weight words");
     put(t.refusal, 1), put(t.place, 2), put(t.words, 2), put(t.doublings, 2), put(t.additions, 2);
     given_back(&strings);
@@ -169,12 +178,12 @@ static void put_ran(sarvundole_ran r) {
 }
 
 static void run(int at_end) {
-    uint8_t width = (uint8_t)take(1);
+    sarvundole_set set = take_set();
     size_t room = take(2);
     uint32_t modulus = take(4), base = take(4);
     size_t count = left / 2;
     uint32_t *m = lend_to_write(&multiples, room, 4, 0xDEADBEEF, at_end);
-    put_ran(sarvundole_run(width, lend_words(count, at_end), count, modulus, base, m, room));
+    put_ran(sarvundole_run(set, lend_words(count, at_end), count, modulus, base, m, room));
 }
 
 static void joint(int at_end) {
@@ -249,7 +258,7 @@ static void worded(void) {
     const char *const none = sarvundole_refusal_words(6);
     for (unsigned a = 0; a < 300; a++) {
         const char *words = sarvundole_refusal_words(a);
-        const int given = (a != 6 && a <= SARVUNDOLE_MALFORMED) || a == SARVUNDOLE_UNEQUAL_SCALARS || a == SARVUNDOLE_BAD_GROUP || a == SARVUNDOLE_NOT_BELOW || a == SARVUNDOLE_UNFIT_FRAME || a == SARVUNDOLE_SHORT_LINE;
+        const int given = (a != 6 && a <= SARVUNDOLE_MALFORMED) || a == SARVUNDOLE_UNEQUAL_SCALARS || a == SARVUNDOLE_BAD_GROUP || a == SARVUNDOLE_NOT_BELOW || a == SARVUNDOLE_UNFIT_FRAME || a == SARVUNDOLE_BAD_SET || a == SARVUNDOLE_SHORT_LINE;
         if ((strcmp(words, none) == 0) == given) refuse("a refusal has no words, or a number that is none has");
         for (unsigned b = 0; b < a && given; b++)
             if (strcmp(words, sarvundole_refusal_words(b)) == 0) refuse("two refusals have the same words");
@@ -298,7 +307,8 @@ static void call(const uint8_t *data, size_t bytes, int at_end) {
     answered = 0;
     const uint32_t asked = take(1);
     order = asked < 0x80 ? 0 : at_end ? 0xFF : 1;
-    switch (asked & 0x7F) {
+    between = (asked & 0x40) != 0;
+    switch (asked & 0x3F) {
     case 1: recode(at_end); break;
     case 2: check(at_end, 0); break;
     case 3: check(at_end, 1); break;

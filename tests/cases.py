@@ -89,6 +89,13 @@ def lowest_first(line):
     return hexadecimal([second.LOWEST + int(line[:2], 16)]) + line[2:]
 
 
+def in_set(line, largest):
+    """The same line with a largest digit after its width: 40 is added to its call."""
+    data = bytes.fromhex(line.decode("ascii"))
+    at = 3 if data[0] & 0x3F in (1, 11) else 2
+    return hexadecimal(bytes([data[0] | 0x40]) + data[1:at] + bytes([largest]) + data[at:])
+
+
 def write(version, lent, digits):
     return hexadecimal(bytes([14, version]) + lent.to_bytes(2, "big") + second.big_endian(digits, 1))
 
@@ -356,6 +363,79 @@ def recode_input():
 # ---- the trial program: refusals two and more at once
 def subsets(numbers):
     return itertools.chain.from_iterable(itertools.combinations(numbers, k) for k in range(len(numbers) + 1))
+
+
+def set_edges():
+    """Every set and its neighbours; every digit about the largest; the entries of a run; forms that have whole sets; and every pair of bytes about the widths."""
+    for width, largest in second.sets():
+        yield in_set(recode_fitting(WNAF, width, b"\xb7" * 66), largest)
+        for scalar in (b"", b"\x0b", b"\x0d", b"\x5d\x01", b"\xb7" * 9):
+            line = in_set(recode_fitting(WNAF, width, scalar), largest)
+            yield line
+            yield lowest_first(line)
+            digits = second.form_digits(WNAF, width, scalar, largest=largest)
+            for call in (check, nonadjacent):
+                yield in_set(call(width, scalar, digits), largest)
+                if largest > 1:
+                    yield in_set(call(width, scalar, digits), largest - 2)
+            yield in_set(tape(width, len(second.tape_of(digits)) + 1, digits), largest)
+        for d in (largest - 2, largest - 1, largest, largest + 1, largest + 2):
+            for digits in ([d], [-d]):
+                if -128 <= digits[0] <= 127:
+                    yield in_set(check(width, bytes([abs(d)]), digits), largest)
+                    yield in_set(tape(width, 3, digits), largest)
+        count = second.entries(width, largest)
+        for lent in (count - 1, count, count + 1):
+            yield in_set(run(width, lent, 1000, 7, [0x1000 + count - 1, 0, 0x3000]), largest)
+        yield in_set(run(width, count, 1000, 7, [0x1000 + count]), largest)
+        yield in_set(run(width, count, 1000, 7, []), largest)
+        yield in_set(below_fitting(WNAF, width, b"\x0e", b"\x0d"), largest)
+        yield in_set(below_fitting(WNAF, width, b"\x0d", b"\x0d"), largest)
+        for form in second.FORMS:
+            yield in_set(recode_fitting(form, width, b"\x9d"), largest)
+    for width in (0, 1, *WIDTHS, 9, 255):
+        for largest in {0, 1, 2, 3, 126, 127, 128, 129, 253, 254, 255, *(m + k for w in WIDTHS for m in (2 ** (w - 1) - 1, 2**w - 1) for k in (-2, -1, 0, 1, 2))}:
+            if 0 <= largest <= 255:
+                yield in_set(recode_fitting(WNAF, width, b"\xc5"), largest)
+                yield in_set(check(width, b"\x01", [1]), largest)
+                yield in_set(tape(width, 1, [1]), largest)
+                yield in_set(run(width, 1, 7, 3, [0x1000]), largest)
+    for line in (reader(3, 4, b"\x2a"), search(2, 5), write(1, 28, [1]), read(9, b"0000010001")):
+        yield bytes([line[0] + 4]) + line[1:]
+    for line in (in_set(tape(2, 1, [1]), 1), in_set(run(2, 1, 7, 3, [0x1000]), 1)):
+        yield lowest_first(line)
+    yield b"4102"
+    yield b"410203"
+    yield b"4203"
+    yield b"42"
+
+
+def set_faults():
+    """Every set of faults at once, with 22 directly after 2."""
+    for faults in subsets((1, 2, 22, 3, 4, 5)):
+        length = 67 if 3 in faults else 2
+        places = 8 * length + (0 if 4 in faults else 1)
+        for form in (0, 6) if 1 in faults else (MOF, WNAF, WMOF):
+            width = (3 if form == MOF else 9) if 2 in faults else 2
+            for largest in (2, 5) if 22 in faults else (1,) if form != WNAF else (1, 3):
+                yield in_set(recode(form, width, places, 8 if 5 in faults else 9, b"\x4d" * length), largest)
+    for faults in subsets((2, 22, 3, 7, 8, 9, 10)):
+        scalar = b"\x2b" if 9 in faults else b"\x2a"
+        digits = [0, -3, 0, 0, 3] if 10 not in faults else [0, 1, 0, 1, 0, 1]
+        digits = digits + [0] * (MOST_PLACES if 7 in faults else 0)
+        if 8 in faults:
+            digits[3] = 4
+        for call in (check, nonadjacent):
+            yield in_set(call(9 if 2 in faults else 3, bytes(66) + scalar if 3 in faults else scalar, digits), 4 if 22 in faults else 5)
+    for faults in subsets((2, 22, 7, 8, 11)):
+        digits = [0, -3, 0, 4 if 8 in faults else 0, 3] + [0] * (MOST_PLACES if 7 in faults else 0)
+        room = len(second.tape_of(digits)) - (1 if 11 in faults else 0)
+        yield in_set(tape(1 if 2 in faults else 3, room, digits), 6 if 22 in faults else 7)
+    for faults in subsets((2, 22, 12, 13, 14, 15)):
+        words = [0x1001, 0x0000, 0x0000, 0x5000 if 15 in faults else 0x0000, 0x4001, 0x0000]
+        if 13 in faults:
+            words += [0] * MOST_WORDS
+        yield in_set(run(1 if 2 in faults else 3, 2 if 14 in faults else 3, 0 if 12 in faults else 10, 9, words[:1100]), 8 if 22 in faults else 5)
 
 
 def recode_faults():
@@ -1050,6 +1130,36 @@ def any_read(rng):
     return read(max(len(digits) + rng.choice([0, 0, 0, 3, -1]), 0), line)
 
 
+def any_in_set(rng):
+    """A call in any set, of a string that the set has, or of its tape; now and then in another set."""
+    width, largest = rng.choice(second.sets())
+    scalar = scalar_like(rng, some_length(rng))
+    digits = second.form_digits(WNAF, width, scalar, largest=largest)[: rng.choice([600, 600, 30])]
+    words = second.tape_of(digits)
+    line = rng.choice([
+        recode_fitting(WNAF, width, scalar) if len(scalar) <= 66 else recode(WNAF, width, 600, 9, scalar),
+        below(WNAF, width, min(8 * len(scalar) + 1, 600), 9, shortest(second.number(scalar) + rng.choice([0, 1, 2])), scalar),
+        check(width, scalar, digits[:600]),
+        nonadjacent(width, scalar, digits[:600]),
+        tape(width, rng.choice([1100, len(words), max(len(words) - 1, 0)]) % 1101, digits[:600]),
+        run(width, rng.choice([64, second.entries(width, largest), second.entries(width, largest) - 1]), rng.randrange(2**32), rng.randrange(2**32), words[:1100]),
+    ])
+    if rng.randrange(5) == 0:
+        largest = rng.choice([rng.choice(second.sets())[1], rng.randrange(256), largest + 2, max(largest - 2, 0)])
+    return in_set(line, largest)
+
+
+def every_set():
+    """Every set over every scalar of one byte, and over 2,000 random ones."""
+    rng = random.Random(SEED + 2)
+    for width, largest in second.sets():
+        for n in range(256):
+            yield in_set(recode_fitting(WNAF, width, bytes([n])), largest)
+    for _ in range(2000):
+        width, largest = rng.choice(second.sets())
+        yield in_set(recode_fitting(WNAF, width, rng.randbytes(rng.choice([32, 32, 66, rng.randrange(67)]))), largest)
+
+
 def good_frame(rng):
     """A line that is read without refusal: a frame of either version, or a refused line."""
     return second.frame_of(rng.choice([1, 2]), frame_string(rng)) if rng.random() < 0.97 else b"%02X" % rng.choice(sorted(second.STATED))
@@ -1084,7 +1194,7 @@ def salvage_input():
 
 def some_trial_line(rng):
     """A line for the trial program, mostly good."""
-    line = rng.choice([any_recode, any_below, any_check, any_check, any_tape, any_run, any_joint, any_joint, any_run_joint, any_reader, any_search, any_write, any_read, any_read])(rng)
+    line = rng.choice([any_recode, any_below, any_check, any_check, any_tape, any_run, any_joint, any_joint, any_run_joint, any_reader, any_search, any_write, any_read, any_read, any_in_set, any_in_set])(rng)
     if rng.randrange(3) == 0:
         line = any_lowest_first(rng, line)
     kind = rng.randrange(40)
@@ -1119,6 +1229,8 @@ def trial_input():
         *cross_check(),
         *write_edges(),
         *read_edges(),
+        *set_edges(),
+        *set_faults(),
         *recode_faults(),
         *below_faults(),
         *check_faults(),

@@ -2,7 +2,7 @@
 """The independent second program: every call of document 01 and of the requests after it, worked out from its definitions alone.
 
 Nothing here is taken from the library. Numbers are Python's integers. MOF comes from bits, wNAF from signed
-residues, wMOF from the document's windows, the closest form from trying candidates, worth from summing, the search
+residues, in a set between two widths by the rule of request 13, wMOF from the document's windows, the closest form from trying candidates, worth from summing, the search
 from trying every digit, the joint sparse form from Solinas's rule, and once more by trying every column. The functions are short and slow; that they and the library agree is the point.
 
     python3 tests/second.py write    writes stdin and stdout of the programs recode, sparse, salvage and trial
@@ -46,6 +46,9 @@ no stated length runs to the end of the line. A line ends at a line feed; a last
 
 With 80 added to the call, 81, 82, 83, 86, 89 and 8B, a scalar's bytes come lowest first; else they come highest first.
 The group order's come highest first in either.
+
+With 40 added to the call, 41 to 45, 4B, C1, C2, C3 and CB, the largest digit (1) of a digit set follows the width; else
+the set is the whole width's.
 
 FF answers a line that is no such frame: empty, of odd length, with another character, of another call, without a
 part of a fixed field or of the stated scalar, with half a tape word at its end, with anything after a search, or with
@@ -94,6 +97,21 @@ def digit_set(width):
     return [d for d in range(1 - half, half) if d == 0 or d % 2 == 1]
 
 
+def whole(width):
+    """The largest digit of D_w."""
+    return 2 ** (width - 1) - 1
+
+
+def bad_set(width, largest):
+    """22: m is odd, from 2^(w-1) - 1 to 2^w - 1, and w at most 7 where m is above 2^(w-1) - 1."""
+    return largest % 2 == 0 or not whole(width) <= largest <= 2**width - 1 or largest > whole(width) and width > 7
+
+
+def sets():
+    """All digit sets, each as its width and its largest digit."""
+    return [(w, m) for w in range(LEAST_WIDTH, MOST_WIDTH + 1) for m in range(256) if not bad_set(w, m)]
+
+
 def worth(digits):
     return sum(d * 2**j for j, d in enumerate(digits))
 
@@ -123,6 +141,21 @@ def wnaf(n, bits, width):
     digits = []
     for _ in range(bits + 1):
         d = signed_residue(n, 2**width) if n % 2 == 1 else 0
+        digits.append(d)
+        n = (n - d) // 2
+    assert n == 0
+    return digits
+
+
+def fractional(n, bits, width, largest):
+    """At an odd remaining number the signed residue modulo 2^(w+1) if its size is at most m, else the one modulo 2^w."""
+    digits = []
+    for _ in range(bits + 1):
+        d = 0
+        if n % 2 == 1:
+            d = signed_residue(n, 2 ** (width + 1))
+            if abs(d) > largest:
+                d = signed_residue(n, 2**width)
         digits.append(d)
         n = (n - d) // 2
     assert n == 0
@@ -187,16 +220,19 @@ def closest(n, bits, width, favoured=-1):
     return digits
 
 
-def form_digits(form, width, scalar, order=HIGHEST_FIRST):
+def form_digits(form, width, scalar, order=HIGHEST_FIRST, largest=None):
+    """In the whole set of the width, or in one of another largest digit."""
     n, bits = number(scalar, order), 8 * len(scalar)
     if form == MOF:
         return mof(n, bits)
+    if form == WNAF and largest is not None:
+        return fractional(n, bits, width, largest)
     if form == SMALLER:
         return closest(n, bits, width, favoured=1)
     return {WNAF: wnaf, WMOF: wmof, CLOSEST: closest}[form](n, bits, width)
 
 
-# ---- the calls: each returns its fields, and the lent buffers as they are afterwards
+# ---- the calls: each returns its fields, and the lent buffers as they are afterwards. Without a largest digit the set is the width's whole one
 def bad_width(width):
     return not LEAST_WIDTH <= width <= MOST_WIDTH
 
@@ -209,13 +245,15 @@ def marks_of(digits):
     ]
 
 
-def recode(form, width, scalar, digits, marks, order=HIGHEST_FIRST, group=None):
+def recode(form, width, scalar, digits, marks, order=HIGHEST_FIRST, group=None, largest=None):
     """refusal, place, weight, top; digits, marks. Where a group order is given the scalar has to be below it."""
     places = 8 * len(scalar) + 1
     if form not in FORMS:
         refusal = 1
     elif bad_width(width) or form == MOF and width != LEAST_WIDTH:
         refusal = 2
+    elif largest is not None and (bad_set(width, largest) or form != WNAF and largest != whole(width)):
+        refusal = 22
     elif len(scalar) > MOST_BYTES:
         refusal = 3
     elif group is not None and not (1 <= len(group) <= MOST_BYTES and number(group) > 0):
@@ -227,13 +265,13 @@ def recode(form, width, scalar, digits, marks, order=HIGHEST_FIRST, group=None):
     elif len(marks) < MARK_WORDS:
         refusal = 5
     else:
-        made = form_digits(form, width, scalar, order)
+        made = form_digits(form, width, scalar, order, largest)
         return (0, 0, weight(made), top(made)), made + digits[places:], marks_of(made) + marks[MARK_WORDS:]
     return (refusal, 0, 0, 0), digits, marks
 
 
-def bad_digits(width, digits):
-    allowed = digit_set(width)
+def bad_digits(width, digits, largest=None):
+    allowed = digit_set(width) if largest is None else [0] + [d for d in range(-largest, largest + 1) if d % 2 == 1]
     return [j for j, d in enumerate(digits) if d not in allowed]
 
 
@@ -243,16 +281,18 @@ def crowded(width, digits):
     return [low for low in nonzero if any(low < high < low + width for high in nonzero)]
 
 
-def check(width, scalar, digits, nonadjacent=False, order=HIGHEST_FIRST):
+def check(width, scalar, digits, nonadjacent=False, order=HIGHEST_FIRST, largest=None):
     """refusal, place, weight, top"""
     if bad_width(width):
         return 2, 0, 0, 0
+    if largest is not None and bad_set(width, largest):
+        return 22, 0, 0, 0
     if len(scalar) > MOST_BYTES:
         return 3, 0, 0, 0
     if len(digits) > MOST_PLACES:
         return 7, 0, 0, 0
-    if bad_digits(width, digits):
-        return 8, min(bad_digits(width, digits)), 0, 0
+    if bad_digits(width, digits, largest):
+        return 8, min(bad_digits(width, digits, largest)), 0, 0
     if worth(digits) != number(scalar, order):
         return 9, 0, 0, 0
     if nonadjacent and crowded(width, digits):
@@ -282,15 +322,17 @@ def tape_of(digits):
     return words
 
 
-def tape(width, digits, words):
+def tape(width, digits, words, largest=None):
     """refusal, place, word count, doublings, additions; words"""
     made = tape_of(digits)
     if bad_width(width):
         refusal, place = 2, 0
+    elif largest is not None and bad_set(width, largest):
+        refusal, place = 22, 0
     elif len(digits) > MOST_PLACES:
         refusal, place = 7, 0
-    elif bad_digits(width, digits):
-        refusal, place = 8, min(bad_digits(width, digits))
+    elif bad_digits(width, digits, largest):
+        refusal, place = 8, min(bad_digits(width, digits, largest))
     elif len(words) < len(made):
         refusal, place = 11, 0
     else:
@@ -307,19 +349,20 @@ def entry_of(x):
     return x & 0xFFF
 
 
-def entries(width):
-    return 2 ** (width - 2)
+def entries(width, largest=None):
+    """2^(w-2), or (m + 1) / 2."""
+    return 2 ** (width - 2) if largest is None else (largest + 1) // 2
 
 
-def good(width, index, x):
-    """Code 0..4, entry below 2^(w-2), a double's entry 0, and a load exactly when it is the first word."""
+def good(count, index, x):
+    """Code 0..4, entry below the count of entries, a double's entry 0, and a load exactly when it is the first word."""
     code, entry = code_of(x), entry_of(x)
     is_load = code in (LOAD, LOAD_NEGATED)
-    return code <= SUBTRACT and entry < entries(width) and (code != DOUBLE or entry == 0) and is_load == (index == 0)
+    return code <= SUBTRACT and entry < count and (code != DOUBLE or entry == 0) and is_load == (index == 0)
 
 
-def bad_words(width, words):
-    return [i for i, x in enumerate(words) if not good(width, i, x)]
+def bad_words(count, words):
+    return [i for i, x in enumerate(words) if not good(count, i, x)]
 
 
 def tape_value(words):
@@ -348,25 +391,27 @@ def cost(count):
     return additions, doublings
 
 
-def run(width, words, modulus, base, multiples):
+def run(width, words, modulus, base, multiples, largest=None):
     """refusal, place, residue, doublings, additions, cost additions, cost doublings; multiples"""
     place = 0
     if bad_width(width):
         refusal = 2
+    elif largest is not None and bad_set(width, largest):
+        refusal = 22
     elif modulus == 0:
         refusal = 12
     elif len(words) > MOST_WORDS:
         refusal = 13
-    elif len(multiples) < entries(width):
+    elif len(multiples) < entries(width, largest):
         refusal = 14
-    elif bad_words(width, words):
-        refusal, place = 15, min(bad_words(width, words))
+    elif bad_words(entries(width, largest), words):
+        refusal, place = 15, min(bad_words(entries(width, largest), words))
     else:
         doublings = sum(1 for x in words if code_of(x) == DOUBLE)
         additions = sum(1 for x in words if code_of(x) in (ADD, SUBTRACT))
-        stored = [(2 * e + 1) * base % modulus for e in range(entries(width))]
+        stored = [(2 * e + 1) * base % modulus for e in range(entries(width, largest))]
         residue = tape_value(words) * base % modulus
-        return (0, 0, residue, doublings, additions, *cost(entries(width))), stored + multiples[len(stored) :]
+        return (0, 0, residue, doublings, additions, *cost(entries(width, largest))), stored + multiples[len(stored) :]
     return (refusal, place, 0, 0, 0, 0, 0), multiples
 
 
@@ -676,10 +721,10 @@ class NoFrame(Exception):
 
 
 class Frame:
-    """The bytes of a line after its call, taken field by field, and the order of its scalar's bytes."""
+    """The bytes of a line after its call, taken field by field, the order of its scalar's bytes, and whether its set has a largest digit."""
 
-    def __init__(self, data, order):
-        self.rest, self.order = data, order
+    def __init__(self, data, order, between):
+        self.rest, self.order, self.between = data, order, between
 
     def take(self, size):
         if len(self.rest) < size:
@@ -693,6 +738,11 @@ class Frame:
             raise NoFrame
         return n
 
+    def set(self):
+        """A width, and the largest digit where one follows."""
+        width = self.number(1)
+        return width, self.number(1) if self.between else None
+
     def remaining(self, most, size=1):
         """All that is left, in elements of so many bytes."""
         data = self.take(len(self.rest))
@@ -702,18 +752,19 @@ class Frame:
 
 
 def trial_recode(frame, below=False):
-    form, width = frame.number(1), frame.number(1)
+    form = frame.number(1)
+    width, largest = frame.set()
     digits = [LENT_DIGIT] * frame.number(2, TRIAL_PLACES)
     marks = [LENT_MARK] * frame.number(1, TRIAL_MARKS)
     group = frame.take(frame.number(1, TRIAL_BYTES)) if below else None
-    (refusal, *fields), digits, marks = recode(form, width, frame.remaining(TRIAL_BYTES), digits, marks, frame.order, group)
+    (refusal, *fields), digits, marks = recode(form, width, frame.remaining(TRIAL_BYTES), digits, marks, frame.order, group, largest)
     return bytes([refusal]) + big_endian(fields, 2) + big_endian(digits, 1) + big_endian(marks, 8)
 
 
 def trial_check(frame, nonadjacent=False):
-    width = frame.number(1)
+    width, largest = frame.set()
     scalar = frame.take(frame.number(1, TRIAL_BYTES))
-    refusal, *fields = check(width, scalar, signed(frame.remaining(TRIAL_PLACES)), nonadjacent, frame.order)
+    refusal, *fields = check(width, scalar, signed(frame.remaining(TRIAL_PLACES)), nonadjacent, frame.order, largest)
     return bytes([refusal]) + big_endian(fields, 2)
 
 
@@ -722,9 +773,9 @@ def trial_nonadjacent(frame):
 
 
 def trial_tape(frame):
-    width = frame.number(1)
+    width, largest = frame.set()
     words = [LENT_WORD] * frame.number(2, TRIAL_WORDS)
-    (refusal, *fields), words = tape(width, signed(frame.remaining(TRIAL_PLACES)), words)
+    (refusal, *fields), words = tape(width, signed(frame.remaining(TRIAL_PLACES)), words, largest)
     return bytes([refusal]) + big_endian(fields + words, 2)
 
 
@@ -740,10 +791,10 @@ def ran(answer, multiples):
 
 
 def trial_run(frame):
-    width = frame.number(1)
+    width, largest = frame.set()
     multiples = [LENT_MULTIPLE] * frame.number(2, TRIAL_MULTIPLES)
     modulus, base = frame.number(4), frame.number(4)
-    return ran(*run(width, given_words(frame), modulus, base, multiples))
+    return ran(*run(width, given_words(frame), modulus, base, multiples, largest))
 
 
 def trial_joint(frame):
@@ -794,17 +845,19 @@ def trial_below(frame):
 TRIALS = dict(enumerate([trial_recode, trial_check, trial_nonadjacent, trial_tape, trial_run, trial_reader, trial_search], 1))
 TRIALS |= {0x09: trial_joint, 0x0A: trial_run_joint, 0x0B: trial_below, 0x0E: trial_write, 0x0F: trial_read}
 ON_A_SCALAR = [trial_recode, trial_check, trial_nonadjacent, trial_reader, trial_joint, trial_below]
+IN_A_SET = [trial_recode, trial_check, trial_nonadjacent, trial_tape, trial_run, trial_below]
 LOWEST = 0x80  # added to the call: a scalar's bytes come lowest first
+BETWEEN = 0x40  # added to the call: the largest digit of a set follows the width
 
 
 def trial_answer(line):
     """One line of the trial program, its line feed left out."""
     data = bytes_of(line)
-    call = None if data is None else TRIALS.get(data[0] % LOWEST)
-    if call is None or data[0] >= LOWEST and call not in ON_A_SCALAR:
+    call = None if data is None else TRIALS.get(data[0] % BETWEEN)
+    if call is None or data[0] & LOWEST and call not in ON_A_SCALAR or data[0] & BETWEEN and call not in IN_A_SET:
         return b"FF"
     try:
-        return written(call(Frame(data[1:], LOWEST_FIRST if data[0] >= LOWEST else HIGHEST_FIRST)))
+        return written(call(Frame(data[1:], LOWEST_FIRST if data[0] & LOWEST else HIGHEST_FIRST, bool(data[0] & BETWEEN))))
     except NoFrame:
         return b"FF"
 
@@ -879,6 +932,29 @@ def check_orders():
             assert reader(width, turned, 17, LOWEST_FIRST) == reader(width, scalar, 17)
 
 
+def check_sets():
+    """In every set each string is worth its number, in the set, spaced by w and within the bound; both ends are wNAF; a larger set weighs no more; tape and run do it."""
+    assert len(sets()) == 70
+    for n in range(256):
+        scalar = bytes([n])
+        weights = {}
+        for width, largest in sets():
+            digits = fractional(n, 8, width, largest)
+            assert len(digits) == 9 and worth(digits) == n and not bad_digits(width, digits, largest) and not crowded(width, digits)
+            assert weight(digits) <= (8 + width) // width
+            if largest == whole(width):
+                assert digits == wnaf(n, 8, width)
+            if largest == 2**width - 1:
+                assert digits == wnaf(n, 8, width + 1)
+            assert weights.setdefault(largest, weight(digits)) == weight(digits)
+            assert check(width, scalar, digits, True, largest=largest)[0] == 0
+            (refusal, _, count, doublings, additions), words = tape(width, digits, [0] * 20, largest)
+            ran, _ = run(width, words[:count], 1009, 1234567, [0] * 64, largest)
+            assert refusal == 0 and ran[:5] == (0, 0, n * 1234567 % 1009, doublings, additions)
+        by_size = [weights[m] for m in sorted(weights)]
+        assert by_size == sorted(by_size, reverse=True)
+
+
 def check_widths(size):
     """More width never costs additions: at the next width no scalar of so many bytes weighs more, in any form but MOF, whose width is 2."""
     for n in range(256**size):
@@ -942,6 +1018,7 @@ def own_checks():
     check_orders()
     check_frames()
     check_salvage()
+    check_sets()
     check_widths(1)
     check_pairs(32, 6)
     check_joint()

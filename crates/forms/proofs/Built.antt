@@ -9,9 +9,10 @@ use lib.IntN.{ℤ, pos, natAbs, _+ℤ_, _*ℤ_}
 use Rattle.laws.proofs.Integers.{parts, diffs, ring}
 use Rattle.laws.proofs.Powers.{pow-four}
 use Rattle.meaning.specs.Digits.{worth, weight, nonzero}
-use Rattle.forms.proofs.Naf.{Digit, Digits, none, gap, some, Naf, even, odd, least-weight, nonzero-odd}
-use Rattle.forms.proofs.Unique.{lemma-S, unique, positive, zero-weight}
+use Rattle.forms.proofs.Naf.{Digit, Digits, none, gap, some, Naf, even, odd, nonzero-odd}
+use Rattle.forms.proofs.Unique.{lemma-S, positive, zero-weight}
 use Rattle.forms.proofs.Exists.{naf}
+use Rattle.forms.proofs.Least.{naf-least}
 
 -- ---- a digit put on a zero
 pub put-worth : (ds : List ℤ) (p : ℕ) (u : ℤ) → p < length ds → getD ds p (pos 0) ≡ pos 0 → worth (set ds p u) ≡ pos (2 ^ p) *ℤ u +ℤ worth ds
@@ -101,7 +102,4 @@ built-light {w} two (put {ρ = ρ} {ds = ds} p u D h z e d b) k N =
 
 -- its weight is the nonadjacent one
 pub built-weight : {w : ℕ} → 2 ≤ w → {R : ℤ} {ds : List ℤ} → Built w R ds → (k : ℕ) → Naf w R k → weight ds ≡ k
-built-weight {w} two b k N =
-    let (Q, four) = pow-four w two in
-    let l = least-weight w two (built-digits b) in
-    omega (arith, built-light two b k N, l .le, unique w Q four (l .naf) N (built-worth b))
+built-weight {w} two b k N = omega (arith, built-light two b k N, naf-least w two N (built-digits b) (built-worth b))

@@ -16,8 +16,24 @@ use Rattle.meaning.specs.Digits.{inSet, largest, allIn}
 use Rattle.forms.proofs.Naf.{Digit, Digits, none, gap, some}
 
 -- an odd number: its absolute value is odd
-abs-odd : (d h : ℤ) → d ≡ pos 2 *ℤ h +ℤ pos 1 → natAbs d % 2 ≡ 1
+pub abs-odd : (d h : ℤ) → d ≡ pos 2 *ℤ h +ℤ pos 1 → natAbs d % 2 ≡ 1
 abs-odd d h e = let k = simp diffs at (rw (parts d, parts h) at e) in omega (ring, abs-is d)
+
+-- an odd number of size at most m is in the set of m
+pub odd-in : (m : ℕ) (d : ℤ) → natAbs d % 2 ≡ 1 → natAbs d ≤ m → T (inSet m d)
+unfolding inSet
+odd-in m d o l =
+    or-right (eqb (natAbs d) 0) (eqb (natAbs d % 2) 1 && leb (natAbs d) m)
+    (and-of (eqb (natAbs d % 2) 1) (leb (natAbs d) m) (equal (natAbs d % 2) 1 o) (le→leb (natAbs d) m l))
+
+-- and no digit of it is larger
+pub in-size : (m : ℕ) (d : ℤ) → T (inSet m d) → natAbs d ≤ m
+unfolding inSet
+in-size m d t = go (or-either (eqb (natAbs d) 0) (eqb (natAbs d % 2) 1 && leb (natAbs d) m) t)
+  where
+    go : T (eqb (natAbs d) 0) ⊎ T (eqb (natAbs d % 2) 1 && leb (natAbs d) m) → natAbs d ≤ m
+    go (inl z) = omega (arith, eqb→eq (natAbs d) 0 z)
+    go (inr z) = leb→le (natAbs d) m (and-both (eqb (natAbs d % 2) 1) (leb (natAbs d) m) z .1)
 
 module _ (w : ℕ) (one : 1 ≤ w) where
   -- a digit of D_w that is not 0 is an odd digit
@@ -35,11 +51,7 @@ module _ (w : ℕ) (one : 1 ≤ w) where
 
   -- and an odd digit is one
   pub digit-in : (d : ℤ) → Digit w d → T (inSet (largest w) d)
-  unfolding inSet
-  digit-in d D =
-      or-right (eqb (natAbs d) 0) (eqb (natAbs d % 2) 1 && leb (natAbs d) (largest w))
-      (and-of (eqb (natAbs d % 2) 1) (leb (natAbs d) (largest w)) (equal (natAbs d % 2) 1 (abs-odd d (D .half) (D .odd)))
-      (le→leb (natAbs d) (largest w) (omega (arith, D .small, pow-pred w one))))
+  digit-in d D = odd-in (largest w) d (abs-odd d (D .half) (D .odd)) (omega (arith, D .small, pow-pred w one))
 
   -- 2 ^ (w - 1) is not in the set
   pub half-out : 2 ≤ w → T (inSet (largest w) (pos (2 ^ (w - 1)))) → ⊥

@@ -1,4 +1,7 @@
 pub mod Naf
+pub mod Fractional
+pub mod Made
+pub mod Least
 pub mod Unique
 pub mod Exists
 pub mod Built
@@ -14,12 +17,14 @@ pub mod Loops
 pub mod Places
 pub mod Spacing
 pub mod Only
+pub mod Whole
 pub mod Wnaf
 pub mod Listed
 pub mod Mof
 pub mod Weights
 pub mod Forms
 pub mod Turns
+pub mod Wholes
 pub mod Refusals
 pub mod Strings
 pub mod Shorter

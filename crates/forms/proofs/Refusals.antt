@@ -110,10 +110,16 @@ first-left [] ys r p c f = f
 first-left (x ∷ xs) ys r p (o, c) (inl (e, a)) = absurd (fails-no x p o a)
 first-left (x ∷ xs) ys r p (o, c) (inr (n, f)) = first-left xs ys r p c f
 
-pub first-without : (xs more ys : List Rule) (r p : ℕ) → Clear more → First (xs ++ (more ++ ys)) r p → First (xs ++ ys) r p
-first-without [] more ys r p c f = first-left more ys r p c f
+-- where they do not apply if none before them does
+pub first-without : (xs more ys : List Rule) (r p : ℕ) → (Clear xs → Clear more) → First (xs ++ (more ++ ys)) r p → First (xs ++ ys) r p
+first-without [] more ys r p c f = first-left more ys r p (c tt) f
 first-without (x ∷ xs) more ys r p c (inl h) = inl h
-first-without (x ∷ xs) more ys r p c (inr (o, f)) = inr (o, first-without xs more ys r p c f)
+first-without (x ∷ xs) more ys r p c (inr (o, f)) = inr (o, first-without xs more ys r p (λ d. c (o, d)) f)
+
+pub first-with : (xs more ys : List Rule) (r p : ℕ) → (Clear xs → Clear more) → First (xs ++ ys) r p → First (xs ++ (more ++ ys)) r p
+first-with [] more ys r p c f = first-after more ys r p (c tt) f
+first-with (x ∷ xs) more ys r p c (inl h) = inl h
+first-with (x ∷ xs) more ys r p c (inr (o, f)) = inr (o, first-with xs more ys r p (λ d. c (o, d)) f)
 
 -- a number, 0 or not, stands for the rules that it is the first of
 pub first-for : (xs more ys : List Rule) (b r p : ℕ) → T (absent 0 more) → (Clear xs → First more b 0) → First (xs ++ (plain b (b ≢ 0) ∷ ys)) r p → First (xs ++ (more ++ ys)) r p

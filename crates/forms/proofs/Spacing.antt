@@ -7,20 +7,18 @@ use Prim.Native.Nat.{ℕ, zero, suc, _+_, _*_, _-_, _/_, _^_, _<_, _≤_}
 use native.Mathlib.Omega.{arith}
 use native.Mathlib.Nat.{le-div-iff-mul-le, pow-succ', suc-add}
 use lib.ListN.{length, getD, drop}
-use lib.IntN.{ℤ, pos, natAbs, _+ℤ_, _*ℤ_, +ℤ-idl, +ℤ-comm}
+use lib.IntN.{ℤ, ℤ-discrete, pos, _+ℤ_, _*ℤ_, +ℤ-idl, +ℤ-comm}
 use Rattle.laws.proofs.Integers.{parts, diffs, ring, same-left}
 use Rattle.laws.proofs.Division.{halve, same-quo}
 use Rattle.laws.proofs.Powers.{pow-four, pow-pred}
 use Rattle.meaning.specs.Digits.{worth, weight, nonzero, Apart}
+use Rattle.meaning.specs.Fractional.{SignedResidue}
 use Rattle.forms.proofs.Naf.{Digit, Digits, none, gap, some, Naf, nil, even, odd, nonzero-odd}
 use Rattle.forms.proofs.Unique.{unique}
 use Rattle.forms.proofs.Exists.{naf}
 use Rattle.forms.proofs.Built.{naf-shift}
 use Rattle.forms.proofs.DigitSets.{digit-some}
-
--- the k lowest places hold 0
-abbrev pub Clear : ℕ → List ℤ → Type 0
-Clear k ds = (j : ℕ) → j < k → getD ds j (pos 0) ≡ pos 0
+use Rattle.forms.proofs.Strings.{Clear, nonzero-one, nonzero-none}
 
 -- ---- apart
 -- the places above the lowest
@@ -43,12 +41,6 @@ clear-worth (suc k) (d ∷ ds) c =
   where
     law : (P : ℕ) (X : ℤ) → pos 0 +ℤ pos 2 *ℤ (pos P *ℤ X) ≡ pos (2 * P) *ℤ X
     law P X = rw (parts X) (simp diffs (omega ring))
-
--- the signed residue of R modulo 2 ^ w, strictly between - 2 ^ (w - 1) and 2 ^ (w - 1)
-pub record SignedResidue (w : ℕ) (R d : ℤ) : Type 0 where
-  pub quotient : ℤ
-  pub is : R ≡ pos (2 ^ w) *ℤ quotient +ℤ d
-  pub between : 2 * natAbs d < 2 ^ w
 
 module _ {w : ℕ} (two : 2 ≤ w) where
   -- the places above an odd digit are a multiple of 2 ^ (w - 1)
@@ -127,33 +119,37 @@ module _ {w : ℕ} (two : 2 ≤ w) where
 
 -- ---- the bound
 module _ {w : ℕ} (two : 2 ≤ w) where
-  spread : {ds : List ℤ} → Digits w ds → Apart w ds → (k : ℕ) → k < w → Clear k ds → weight ds ≢ 0 → weight ds * w + k ≤ length ds + (w - 1)
-  unfolding weight nonzero
-  spread none a k h c n = absurd (n refl)
-  spread (gap {ds} s) a zero h c n =
-      let z : 0 + weight ds ≡ weight ds = omega arith in
-      let i = spread s (apart-tail a) zero h (λ j l. absurd (omega arith)) (λ e. n (z ∙ e)) in
-      rw z (omega arith)
-  spread (gap {ds} s) a (suc k) h c n =
-      let z : 0 + weight ds ≡ weight ds = omega arith in
-      let i = spread s (apart-tail a) k (omega arith) (λ j l. c (suc j) (omega arith)) (λ e. n (z ∙ e)) in
-      rw z (omega arith)
-  spread (some D s) a (suc k) h c n = absurd (digit-some D (c 0 (omega arith)))
-  spread (some {d} {ds} D s) a zero h c n =
-      let z : nonzero d + weight ds ≡ suc (weight ds) = omega (arith, nonzero-odd d (D .half) (D .odd)) in
-      rw z (go (weight ds) refl (spread s (apart-tail a) (w - 1) (omega arith) (apart-clear a (digit-some D))))
+  spread : (ds : List ℤ) → Apart w ds → (k : ℕ) → k < w → Clear k ds → weight ds ≢ 0 → weight ds * w + k ≤ length ds + (w - 1)
+  unfolding weight
+  spread [] a k h c n = absurd (n refl)
+  spread (d ∷ ds) a k h c n = go (λ k. spread ds (apart-tail a) k) (ℤ-discrete d (pos 0)) k h c
     where
-      go : (m : ℕ) → weight ds ≡ m → (weight ds ≢ 0 → weight ds * w + (w - 1) ≤ length ds + (w - 1)) → suc (weight ds) * w + 0 ≤ suc (length ds) + (w - 1)
-      go zero e f = rw e (omega arith)
-      go (suc m) e f =
+      rests : ((k : ℕ) → k < w → Clear k ds → weight ds ≢ 0 → weight ds * w + k ≤ length ds + (w - 1))
+          → (k : ℕ) → k < w → Clear k (d ∷ ds) → weight ds ≢ 0 → weight ds * w + k ≤ suc (length ds) + (w - 1)
+      rests f zero h c m = let i = f zero h (λ j l. absurd (omega arith)) m in omega arith
+      rests f (suc k) h c m = let i = f k (omega arith) (λ j l. c (suc j) (omega arith)) m in omega arith
+
+      starts : (x : ℕ) → weight ds ≡ x → (weight ds ≢ 0 → weight ds * w + (w - 1) ≤ length ds + (w - 1)) → suc (weight ds) * w + 0 ≤ suc (length ds) + (w - 1)
+      starts zero e f = rw e (omega arith)
+      starts (suc x) e f =
           let g = f (λ z. omega arith) in
           let i : suc (weight ds) * w ≡ w + weight ds * w = omega arith in
           omega arith
 
+      go : ((k : ℕ) → k < w → Clear k ds → weight ds ≢ 0 → weight ds * w + k ≤ length ds + (w - 1))
+          → Dec (d ≡ pos 0) → (k : ℕ) → k < w → Clear k (d ∷ ds) → (nonzero d + weight ds) * w + k ≤ suc (length ds) + (w - 1)
+      go f (yes e) k h c =
+          let z : nonzero d + weight ds ≡ weight ds = omega (arith, nonzero-none e) in
+          rw z (rests f k h c (λ m. n (z ∙ m)))
+      go f (no m) zero h c =
+          let z : nonzero d + weight ds ≡ suc (weight ds) = omega (arith, nonzero-one d m) in
+          rw z (starts (weight ds) refl (f (w - 1) (omega arith) (apart-clear a m)))
+      go f (no m) (suc k) h c = absurd (m (c 0 (omega arith)))
+
   -- nonzeros at least w apart on n + 1 places: at most (n + w) / w, rounded down
-  pub apart-bound : {ds : List ℤ} → Digits w ds → Apart w ds → (n : ℕ) → length ds ≡ n + 1 → weight ds ≤ (n + w) / w
-  apart-bound {ds} s a n l = let h : 0 < w = omega arith in le-div-iff-mul-le h .1 (go (weight ds) refl)
+  pub apart-bound : (ds : List ℤ) → Apart w ds → (n : ℕ) → length ds ≡ n + 1 → weight ds ≤ (n + w) / w
+  apart-bound ds a n l = let h : 0 < w = omega arith in le-div-iff-mul-le h .1 (go (weight ds) refl)
     where
       go : (m : ℕ) → weight ds ≡ m → weight ds * w ≤ n + w
       go zero e = rw e (omega arith)
-      go (suc m) e = let i = spread s a 0 (omega arith) (λ j h. absurd (omega arith)) (λ z. omega arith) in omega arith
+      go (suc m) e = let i = spread ds a 0 (omega arith) (λ j h. absurd (omega arith)) (λ z. omega arith) in omega arith

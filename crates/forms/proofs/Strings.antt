@@ -13,6 +13,10 @@ use lib.Seq.{take-suc, length-take-le}
 use Rattle.laws.proofs.Choices.{and-of, and-both}
 use Rattle.meaning.specs.Digits.{inSet, allIn, nonzero, weight, over, top}
 
+-- the k lowest places hold 0
+abbrev pub Clear : ℕ → List ℤ → Type 0
+Clear k ds = (j : ℕ) → j < k → getD ds j (pos 0) ≡ pos 0
+
 -- ---- a digit
 pub nonzero-le : (d : ℤ) → nonzero d ≤ 1
 unfolding nonzero

@@ -1,6 +1,6 @@
 -- Least weight and the bound, for wNAF, wMOF and the closest form under either tie rule: each has the nonadjacent weight of its number, so no string of D_w digits
 -- that is worth the number is lighter, whatever its length, and n + 1 places hold at most (n + w) / w nonzeros. Assumes nothing.
-use mathlib.Core.Path.{_≡_, sym, subst, _∙_}
+use mathlib.Core.Path.{_≡_, sym, _∙_}
 use mathlib.Core.List.{List}
 use Prim.Native.Nat.{ℕ, _+_, _/_, _^_, _<_, _≤_}
 use native.Mathlib.Omega.{arith}
@@ -11,15 +11,16 @@ use Rattle.meaning.specs.Digits.{worth, weight, allIn, largest}
 use Rattle.meaning.specs.Wnaf.{Wnaf}
 use Rattle.meaning.specs.Wmof.{wmof}
 use Rattle.meaning.specs.Closest.{Tie, Closest}
-use Rattle.forms.proofs.Naf.{Naf, least-weight}
+use Rattle.forms.proofs.Naf.{Naf}
 use Rattle.forms.proofs.Unique.{unique}
 use Rattle.forms.proofs.Exists.{naf}
+use Rattle.forms.proofs.Least.{naf-least}
 use Rattle.forms.proofs.DigitSets.{all-of}
 use Rattle.forms.proofs.Built.{built-weight}
 use Rattle.forms.proofs.Wmof.{wmof-built}
 use Rattle.forms.proofs.Taken.{takes-built}
 use Rattle.forms.proofs.Spacing.{apart-naf, apart-bound}
-use Rattle.forms.proofs.Wnaf.{wnaf-is, wnaf-digits}
+use Rattle.forms.proofs.Wnaf.{wnaf-is}
 
 -- ds has the nonadjacent weight of N
 pub record Light (w N : ℕ) (ds : List ℤ) : Type 0 where
@@ -45,11 +46,11 @@ module _ (w N : ℕ) (two : 2 ≤ w) where
   -- no finite string over D_w, of any length, that is worth N has fewer nonzero digits
   pub light-least : {ds : List ℤ} → Light w N ds → (es : List ℤ) → T (allIn (largest w) es) → worth es ≡ pos N → weight ds ≤ weight es
   light-least a es t e =
-      let l = least-weight w two (all-of w (omega arith) es t) in
-      omega (arith, l .le, a .weighs (l .m) (subst (λ X. Naf w X (l .m)) e (l .naf)))
+      let (k, N) = naf w two (pos N) in
+      omega (arith, a .weighs k N, naf-least w two N (all-of w (omega arith) es t) e)
 
   -- with n bits there are at most (n + w) / w nonzero digits
   pub light-bound : (n : ℕ) → N < 2 ^ n → {ds : List ℤ} → Light w N ds → weight ds ≤ (n + w) / w
   light-bound n small a =
       let f = wnaf-is w N n two small in
-      omega (arith, light-same a (wnaf-light f), apart-bound two (wnaf-digits w two (n + 1) N) (f .apart) n (f .length-is))
+      omega (arith, light-same a (wnaf-light f), apart-bound two _ (f .apart) n (f .length-is))

@@ -1,3 +1,3 @@
 -- Functions that code follows, each shown in proofs/ to give the string that the meaning asks for.
-pub mod Wnaf
+pub mod Fractional
 pub mod Closest

@@ -26,10 +26,10 @@ refuses rules t ds k p e u =
     (record { first = first-at rules k p u; weight-is = sym (granted-none (numberAt rules k) (weight ds) n); top-is = sym (granted-none (numberAt rules k) (top ds) n) })
 
 -- ---- the nonadjacent check, by what the plain one answers
-module _ (w : ℕ) (o : Order) (s : List ℕ) (ds : List ℤ) {v : Tally} (c : Check (checkRules w o s ds) ds (told v)) where
+module _ (w m : ℕ) (o : Order) (s : List ℕ) (ds : List ℤ) {v : Tally} (c : Check (checkRules w m o s ds) ds (told v)) where
   -- a refusal stands
-  pub plain-refuses : v .refusal ≢ 0 → Check (nonadjacentRules w o s ds) ds (told v)
-  plain-refuses n = record { first = first-kept (checkRules w o s ds) (lowest 10 (Crowded w ds) ∷ []) (v .refusal) (v .place) n (c .first); weight-is = c .weight-is; top-is = c .top-is }
+  pub plain-refuses : v .refusal ≢ 0 → Check (nonadjacentRules w m o s ds) ds (told v)
+  plain-refuses n = record { first = first-kept (checkRules w m o s ds) (lowest 10 (Crowded w ds) ∷ []) (v .refusal) (v .place) n (c .first); weight-is = c .weight-is; top-is = c .top-is }
 
   module _ (z : v .refusal ≡ 0) where
     -- an accepted string is short, so that a crowded place is named
@@ -37,25 +37,25 @@ module _ (w : ℕ) (o : Order) (s : List ℕ) (ds : List ℤ) {v : Tally} (c : C
     crowded-few {p} h = go (decLt p (length ds))
       where
         short : length ds ≤ mostPlaces
-        short = not-below (clear (checkRules w o s ds) tt (v .refusal) (v .place) (c .first) z .1 .1 .0)
+        short = not-below (clear (checkRules w m o s ds) tt (v .refusal) (v .place) (c .first) z .1 .1 .1 .0)
 
         go : Dec (p < length ds) → p < mostPlaces
         go (yes l) = omega (arith, short)
         go (no l) = absurd (h .here (List·getD-eq-default ds (pos 0) {n = p} (omega arith)))
 
     -- 10 is the last rule
-    pub until-10 : {p : ℕ} → Lowest (Crowded w ds) p → Until (nonadjacentRules w o s ds) 5 p
+    pub until-10 : {p : ℕ} → Lowest (Crowded w ds) p → Until (nonadjacentRules w m o s ds) 6 p
     until-10 h =
-        let (a, (b, (d, (e, (f, _))))) = clear (checkRules w o s ds) tt (v .refusal) (v .place) (c .first) z in
-        (a, (b, (d, (e, (f, h)))))
+        let (a, (b, (d, (e, (f, (g, _)))))) = clear (checkRules w m o s ds) tt (v .refusal) (v .place) (c .first) z in
+        (a, (b, (d, (e, (f, (g, h))))))
 
     -- the string is accepted
-    pub plain-accepts : ((p : ℕ) → Crowded w ds p → ⊥) → Check (nonadjacentRules w o s ds) ds (told v)
+    pub plain-accepts : ((p : ℕ) → Crowded w ds p → ⊥) → Check (nonadjacentRules w m o s ds) ds (told v)
     plain-accepts n =
-        let (a, (b, (d, (e, (f, _))))) = clear (checkRules w o s ds) tt (v .refusal) (v .place) (c .first) z in
-        let none = first-none (nonadjacentRules w o s ds) (a, (b, (d, (e, (f, (n, tt)))))) in
+        let (a, (b, (d, (e, (f, (g, _)))))) = clear (checkRules w m o s ds) tt (v .refusal) (v .place) (c .first) z in
+        let none = first-none (nonadjacentRules w m o s ds) (a, (b, (d, (e, (f, (g, (n, tt))))))) in
         record {
-          first = rw (z, first-only (checkRules w o s ds) (c .first) (first-none (checkRules w o s ds) (a, (b, (d, (e, (f, tt)))))) .1) none;
+          first = rw (z, first-only (checkRules w m o s ds) (c .first) (first-none (checkRules w m o s ds) (a, (b, (d, (e, (f, (g, tt))))))) .1) none;
           weight-is = c .weight-is;
           top-is = c .top-is;
         }

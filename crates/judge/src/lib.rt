@@ -18,6 +18,7 @@ use digits::Found;
 use digits::Tally;
 use scalar::MOST_BYTES;
 use scalar::Order;
+use width::DigitSet;
 use width::Known;
 use width::Width;
 
@@ -209,11 +210,14 @@ fn refused(number: u8, place: u16) -> Tally
 }
 
 // The plain check.
-pub fn check(width: u8, order: Order, scalar: &[u8], digits: &[i8]) -> Tally
-    ensures { λ r. ⌜ Check (checkRules width (ordered order) (now (scalar .entry)) (now (digits .entry))) (now (digits .entry)) (told r) ⌝ }
+pub fn check(set: DigitSet, order: Order, scalar: &[u8], digits: &[i8]) -> Tally
+    ensures { λ r. ⌜ Check (checkRules (set .width) (set .largest) (ordered order) (now (scalar .entry)) (now (digits .entry))) (now (digits .entry)) (told r) ⌝ }
 {
-    let Known::As(known) = Width::known(width) else {
+    let Known::As(whole) = Width::known(set.width) else {
         return refused(2, 0);
+    };
+    let Known::As(known) = whole.reaching(set.largest) else {
+        return refused(22, 0);
     };
     if MOST_BYTES < scalar.len() {
         return refused(3, 0);
@@ -238,14 +242,14 @@ pub fn check(width: u8, order: Order, scalar: &[u8], digits: &[i8]) -> Tally
 }
 
 // The check of a string whose nonzero digits have to stand apart. Its own rule is the last, so what the plain check refuses stays refused.
-pub fn check_nonadjacent(width: u8, order: Order, scalar: &[u8], digits: &[i8]) -> Tally
-    ensures { λ r. ⌜ Check (nonadjacentRules width (ordered order) (now (scalar .entry)) (now (digits .entry))) (now (digits .entry)) (told r) ⌝ }
+pub fn check_nonadjacent(set: DigitSet, order: Order, scalar: &[u8], digits: &[i8]) -> Tally
+    ensures { λ r. ⌜ Check (nonadjacentRules (set .width) (set .largest) (ordered order) (now (scalar .entry)) (now (digits .entry))) (now (digits .entry)) (told r) ⌝ }
 {
-    let plain = check(width, order, scalar, digits);
+    let plain = check(set, order, scalar, digits);
     if plain.refusal != 0 {
         return plain;
     }
-    match spacing(width as usize, digits) {
+    match spacing(set.width as usize, digits) {
         Spaced::Near(place) => refused(10, place as u16),
         Spaced::Apart => plain,
     }

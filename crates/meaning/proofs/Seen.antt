@@ -4,11 +4,13 @@ use mathlib.Core.Path.{_≡_, refl}
 use mathlib.Core.Bool.{true, false}
 use mathlib.Core.List.{List, [], _∷_}
 use lib.Count.{trailingZeros}
-use lib.Dec.{lit≤}
+use lib.Dec.{lit≤, lit<}
 use lib.IntN.{ℤ, pos, negsuc}
 use Rattle.meaning.specs.Scalars.{highestFirst, lowestFirst, number}
 use Rattle.meaning.specs.Digits.{inSet, largest, nonzero, worth, weight, top, listed}
+use Rattle.meaning.specs.Sets.{Pair}
 use Rattle.meaning.specs.Mof.{mof}
+use Rattle.meaning.specs.Fractional.{DigitAt, small, large}
 use Rattle.meaning.specs.Windows.{windowWorth, shrink, entryUnit, entryTwos}
 use Rattle.meaning.specs.Wmof.{wmofUnder, wmof}
 use Rattle.meaning.specs.Closest.{larger, smaller, Favours}
@@ -52,6 +54,21 @@ no-half = refl
 has-seven : inSet (largest 4) (negsuc 6) ≡ true
 unfolding inSet
 has-seven = refl
+
+-- six multiples: width 4 goes with the largest digit 11, and 13 is no digit of the set
+six : Pair 4 11
+six = record { between = record { wide = lit≤ tt; odd = refl; least = lit≤ tt; most = lit≤ tt }; most = lit≤ tt; above = λ _. lit< tt }
+
+no-thirteen : inSet 11 (pos 13) ≡ false
+unfolding inSet
+no-thirteen = refl
+
+-- at width 4 with 11 the digit at 11 is 11 itself, and that at 13 is -3
+takes-eleven : DigitAt 4 11 (pos 11) (pos 11)
+takes-eleven = small (record { quotient = pos 0; is = refl; between = lit< tt }) (lit≤ tt)
+
+takes-three : DigitAt 4 11 (pos 13) (negsuc 2)
+takes-three = large (pos 13) (record { quotient = pos 0; is = refl; between = lit< tt }) (lit< tt) (record { quotient = pos 1; is = refl; between = lit< tt })
 
 -- a string's worth, weight and top; a negative digit counts as one
 its-worth : worth thirteen ≡ pos 13

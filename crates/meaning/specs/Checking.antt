@@ -9,8 +9,8 @@ use lib.Dec.{T}
 use lib.IntN.{ℤ, pos}
 use lib.ListN.{length, getD}
 use Rattle.meaning.specs.Scalars.{Order, number}
-use Rattle.meaning.specs.Digits.{mostPlaces, largest, inSet, worth, weight, top, Tally}
-use Rattle.meaning.specs.Refusals.{Rule, plain, lowest, First, granted, badWidth, longScalar}
+use Rattle.meaning.specs.Digits.{mostPlaces, inSet, worth, weight, top, Tally}
+use Rattle.meaning.specs.Refusals.{Rule, plain, lowest, First, granted, setRules, longScalar}
 
 -- ---- refusals
 -- 7: digit string over 529 places
@@ -34,13 +34,19 @@ pub record Crowded (w : ℕ) (ds : List ℤ) (p : ℕ) : Type 0 where
   pub here : getD ds p (pos 0) ≢ pos 0
   pub there : getD ds other (pos 0) ≢ pos 0
 
--- 2, 3, 7, 8, then 9: string not worth the scalar
-abbrev pub checkRules : (w : ℕ) (o : Order) (s : List ℕ) (ds : List ℤ) → List Rule
-checkRules w o s ds = badWidth w ∷ longScalar s ∷ longString ds ∷ badDigit (largest w) ds ∷ plain 9 (worth ds ≢ pos (number o s)) ∷ []
+-- after those of the set 3, 7, 8, then 9: string not worth the scalar
+abbrev pub worthRules : (m : ℕ) (o : Order) (s : List ℕ) (ds : List ℤ) → List Rule
+worthRules m o s ds = longScalar s ∷ longString ds ∷ badDigit m ds ∷ plain 9 (worth ds ≢ pos (number o s)) ∷ []
+
+abbrev pub checkRules : (w m : ℕ) (o : Order) (s : List ℕ) (ds : List ℤ) → List Rule
+checkRules w m o s ds = setRules w m ++ worthRules m o s ds
 
 -- the nonadjacent check adds 10: two nonzero digits fewer than w places apart; place is the lower of the lowest such pair
-abbrev pub nonadjacentRules : (w : ℕ) (o : Order) (s : List ℕ) (ds : List ℤ) → List Rule
-nonadjacentRules w o s ds = checkRules w o s ds ++ (lowest 10 (Crowded w ds) ∷ [])
+abbrev pub spacedRules : (w : ℕ) (ds : List ℤ) → List Rule
+spacedRules w ds = lowest 10 (Crowded w ds) ∷ []
+
+abbrev pub nonadjacentRules : (w m : ℕ) (o : Order) (s : List ℕ) (ds : List ℤ) → List Rule
+nonadjacentRules w m o s ds = checkRules w m o s ds ++ spacedRules w ds
 
 -- ---- what a check by these rules returns
 pub record Check (rules : List Rule) (ds : List ℤ) (a : Tally) : Type 0 where

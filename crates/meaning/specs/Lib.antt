@@ -1,8 +1,10 @@
 -- Document 01 as definitions, in its order, with the requests that came after it: what a reader has to believe. No proof stands here, and no code is named.
 pub mod Scalars
 pub mod Digits
+pub mod Sets
 pub mod Mof
 pub mod Wnaf
+pub mod Fractional
 pub mod Windows
 pub mod Wmof
 pub mod Closest
@@ -18,6 +20,7 @@ pub mod Running
 pub mod Joint
 pub mod Joining
 pub mod JointRunning
+pub mod Whole
 pub mod Reading
 pub mod Searching
 pub mod Lines

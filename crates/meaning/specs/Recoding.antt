@@ -7,8 +7,9 @@ use Prim.Native.Nat.{ℕ, zero, suc, _+_, _*_, _<_, _≤_}
 use lib.IntN.{ℤ}
 use lib.ListN.{length, drop}
 use Rattle.meaning.specs.Scalars.{Order, highestFirst, number, bitCount, mostBytes}
-use Rattle.meaning.specs.Digits.{leastWidth, mostWidth, nonzero, weight, top, listed, Tally}
-use Rattle.meaning.specs.Forms.{Form, mostForm}
+use Rattle.meaning.specs.Digits.{leastWidth, mostWidth, largest, nonzero, weight, top, listed, Tally}
+use Rattle.meaning.specs.Sets.{Pair}
+use Rattle.meaning.specs.Forms.{Strings, FormIn, mostForm}
 use Rattle.meaning.specs.Refusals.{Rule, plain, First, longScalar}
 
 -- ---- marks
@@ -27,18 +28,26 @@ unfoldable pub marksOf : List ℤ → List ℕ
 marksOf ds = listed (λ q. marked 64 (drop (64 * q) ds)) 0 markWords
 
 -- ---- refusals
--- 1: form is not 1..5; 2: width outside 2..8, or not 2 with form 1; 3: scalar over 66 bytes; here a call may have more; 4: digit buffer under n + 1 places;
--- 5: marks buffer under 9 words
-abbrev pub rulesWith : List Rule → (form w : ℕ) (s : List ℕ) (places words : ℕ) → List Rule
-rulesWith more form w s places words =
+-- 1: form is not 1..5; 2: width outside 2..8, or not 2 with form 1
+abbrev pub formRules : (form w : ℕ) → List Rule
+formRules form w =
     plain 1 ((form < 1) ⊎ (mostForm < form))
     ∷ plain 2 (((w < leastWidth) ⊎ (mostWidth < w)) ⊎ ((form ≡ 1) × (w ≢ 2)))
-    ∷ longScalar s
-    ∷ (more ++ (plain 4 (places < bitCount s + 1) ∷ plain 5 (words < markWords) ∷ []))
+    ∷ []
 
--- the plain call has none
-abbrev pub recodeRules : (form w : ℕ) (s : List ℕ) (places words : ℕ) → List Rule
-recodeRules form w s places words = rulesWith [] form w s places words
+-- 22: no set has this width and this largest digit, or it is not the whole width's where the form is not 2
+abbrev pub setFor : (form w m : ℕ) → List Rule
+setFor form w m = plain 22 ((Pair w m → ⊥) ⊎ ((form ≢ 2) × (m ≢ largest w))) ∷ []
+
+-- after the form's, a call that takes a set has that rule; 3: scalar over 66 bytes; here a call may have more; 4: digit buffer under n + 1 places; 5: marks buffer under
+-- 9 words
+abbrev pub rulesWith : (sets more : List Rule) (form w : ℕ) (s : List ℕ) (places words : ℕ) → List Rule
+rulesWith sets more form w s places words =
+    formRules form w ++ (sets ++ (longScalar s ∷ (more ++ (plain 4 (places < bitCount s + 1) ∷ plain 5 (words < markWords) ∷ []))))
+
+-- the plain call has no others
+abbrev pub recodeRules : (form w m : ℕ) (s : List ℕ) (places words : ℕ) → List Rule
+recodeRules form w m s places words = rulesWith (setFor form w m) [] form w s places words
 
 -- the call that takes a group's order, highest byte first whatever the scalar's order of bytes, has two. 19: order empty, worth zero or over 66 bytes; 20: scalar not below the
 -- order, as numbers
@@ -48,14 +57,14 @@ groupRules o s group =
     ∷ plain 20 (number highestFirst group ≤ number o s)
     ∷ []
 
-abbrev pub belowRules : (form w : ℕ) (o : Order) (s group : List ℕ) (places words : ℕ) → List Rule
-belowRules form w o s group places words = rulesWith (groupRules o s group) form w s places words
+abbrev pub belowRules : (form w m : ℕ) (o : Order) (s group : List ℕ) (places words : ℕ) → List Rule
+belowRules form w m o s group places words = rulesWith (setFor form w m) (groupRules o s group) form w s places words
 
 -- ---- what the call returns and leaves
--- on acceptance: the digits of the form and then what stood past them, the marks of those digits likewise, their weight and their top
-pub record Recoded (form w : ℕ) (o : Order) (s : List ℕ) (digits₀ : List ℤ) (marks₀ : List ℕ) (a : Tally) (digits : List ℤ) (marks : List ℕ) : Type 0 where
+-- on acceptance: the digits of what the scalar's string is, and then what stood past them, the marks of those digits likewise, their weight and their top
+pub record Recoded (S : Strings) (o : Order) (s : List ℕ) (digits₀ : List ℤ) (marks₀ : List ℕ) (a : Tally) (digits : List ℤ) (marks : List ℕ) : Type 0 where
   pub string : List ℤ
-  pub formed : Form form w (number o s) (bitCount s) string
+  pub formed : S (number o s) (bitCount s) string
   pub digits-are : digits ≡ string ++ drop (bitCount s + 1) digits₀
   pub marks-are : marks ≡ marksOf string ++ drop markWords marks₀
   pub weight-is : a .weight ≡ weight string
@@ -69,15 +78,16 @@ pub record Unrecoded (digits₀ : List ℤ) (marks₀ : List ℕ) (a : Tally) (d
   pub top-is : a .top ≡ 0
 
 -- a call by these rules, and the two buffers afterwards
-pub record RecodeBy (rules : List Rule) (form w : ℕ) (o : Order) (s : List ℕ) (digits₀ : List ℤ) (marks₀ : List ℕ) (a : Tally) (digits : List ℤ) (marks : List ℕ) : Type 0 where
+pub record RecodeBy (rules : List Rule) (S : Strings) (o : Order) (s : List ℕ) (digits₀ : List ℤ) (marks₀ : List ℕ) (a : Tally) (digits : List ℤ) (marks : List ℕ) : Type 0 where
   pub first : First rules (a .refusal) (a .place)
-  pub accepted : a .refusal ≡ 0 → Recoded form w o s digits₀ marks₀ a digits marks
+  pub accepted : a .refusal ≡ 0 → Recoded S o s digits₀ marks₀ a digits marks
   pub refused : a .refusal ≢ 0 → Unrecoded digits₀ marks₀ a digits marks
 
 -- the plain call
-abbrev pub Recode : (form w : ℕ) (o : Order) (s : List ℕ) (digits₀ : List ℤ) (marks₀ : List ℕ) (a : Tally) (digits : List ℤ) (marks : List ℕ) → Type 0
-Recode form w o s digits₀ marks₀ a digits marks = RecodeBy (recodeRules form w s (length digits₀) (length marks₀)) form w o s digits₀ marks₀ a digits marks
+abbrev pub Recode : (form w m : ℕ) (o : Order) (s : List ℕ) (digits₀ : List ℤ) (marks₀ : List ℕ) (a : Tally) (digits : List ℤ) (marks : List ℕ) → Type 0
+Recode form w m o s digits₀ marks₀ a digits marks = RecodeBy (recodeRules form w m s (length digits₀) (length marks₀)) (FormIn form w m) o s digits₀ marks₀ a digits marks
 
 -- and the call that takes a group's order: the plain one with two rules more
-abbrev pub RecodeBelow : (form w : ℕ) (o : Order) (s group : List ℕ) (digits₀ : List ℤ) (marks₀ : List ℕ) (a : Tally) (digits : List ℤ) (marks : List ℕ) → Type 0
-RecodeBelow form w o s group digits₀ marks₀ a digits marks = RecodeBy (belowRules form w o s group (length digits₀) (length marks₀)) form w o s digits₀ marks₀ a digits marks
+abbrev pub RecodeBelow : (form w m : ℕ) (o : Order) (s group : List ℕ) (digits₀ : List ℤ) (marks₀ : List ℕ) (a : Tally) (digits : List ℤ) (marks : List ℕ) → Type 0
+RecodeBelow form w m o s group digits₀ marks₀ a digits marks =
+    RecodeBy (belowRules form w m o s group (length digits₀) (length marks₀)) (FormIn form w m) o s digits₀ marks₀ a digits marks

@@ -7,6 +7,7 @@ use Prim.Native.Nat.{ℕ, zero, suc, _<_}
 use lib.ListN.{length}
 use Rattle.meaning.specs.Scalars.{mostBytes}
 use Rattle.meaning.specs.Digits.{leastWidth, mostWidth}
+use Rattle.meaning.specs.Sets.{Pair}
 
 -- a rule: a refusal's number, and when it is given: plainly, and the place is 0; or where something holds of a place, and the place is the lowest such
 pub data Rule : Type 1 where
@@ -50,6 +51,14 @@ kept (suc r) written lent = lent
 -- 2: width outside 2..8
 abbrev pub badWidth : ℕ → Rule
 badWidth w = plain 2 ((w < leastWidth) ⊎ (mostWidth < w))
+
+-- 22, directly after 2: no set has this width and this largest digit
+abbrev pub badSet : (w m : ℕ) → Rule
+badSet w m = plain 22 (Pair w m → ⊥)
+
+-- so a call that takes a set begins with these
+abbrev pub setRules : (w m : ℕ) → List Rule
+setRules w m = badWidth w ∷ badSet w m ∷ []
 
 -- 3: scalar over 66 bytes
 abbrev pub longScalar : List ℕ → Rule

@@ -11,7 +11,8 @@ use lib.ListN.{length, getD, drop}
 use Rattle.meaning.specs.Scalars.{highestFirst, number, bitCount}
 use Rattle.meaning.specs.Forms.{Form}
 use Rattle.meaning.specs.Refusals.{Rule, plain, First}
-use Rattle.meaning.specs.Recoding.{markWords, recodeRules}
+use Rattle.meaning.specs.Recoding.{markWords}
+use Rattle.meaning.specs.Whole.{wholeRules}
 use Rattle.meaning.specs.Lines.{lineFeed, Each}
 use Rattle.meaning.specs.Hexadecimal.{allHex, bytesOf, written}
 use Rattle.meaning.specs.Frames.{Version, lineOf}
@@ -45,7 +46,7 @@ scalarOf line = drop 3 (bytesOf line)
 abbrev pub lineRules : List ℕ → List Rule
 lineRules line =
     let s = scalarOf line in
-    plain 16 (T (malformed line)) ∷ recodeRules (formOf line) (widthOf line) s (bitCount s + 1) markWords
+    plain 16 (T (malformed line)) ∷ wholeRules (formOf line) (widthOf line) s (bitCount s + 1) markWords
 
 -- ---- the answer, in version v
 -- out is the answer to a line: in capitals, ended by a line feed; a refusal is its two characters alone, in both versions

@@ -6,8 +6,8 @@ use mathlib.Core.List.{List, [], _∷_, _++_}
 use Prim.Native.Nat.{ℕ, _*_, _%_, _<_}
 use lib.IntN.{ℤ, pos, _+ℤ_, _*ℤ_}
 use lib.ListN.{length, getD, drop}
-use Rattle.meaning.specs.Digits.{largest, entries, listed}
-use Rattle.meaning.specs.Refusals.{Rule, plain, lowest, First, granted, kept, badWidth}
+use Rattle.meaning.specs.Digits.{entries, listed}
+use Rattle.meaning.specs.Refusals.{Rule, plain, lowest, First, granted, kept, setRules}
 use Rattle.meaning.specs.Words.{mostWords}
 use Rattle.meaning.specs.Walks.{multiple, tapeValue, doublings, additions, Good}
 use Rattle.meaning.specs.Multiples.{Cost, costOf}
@@ -17,15 +17,13 @@ pub record BadWord (count : ℕ) (ws : List ℕ) (p : ℕ) : Type 0 where
   pub within : p < length ws
   pub bad : Good count p (getD ws p 0) → ⊥
 
--- 2, 12: modulus 0; 13: tape over 1,057 words; 14: multiples buffer under 2 ^ (w - 2) entries; 15: a bad word; place is the first such
-abbrev pub runRules : (w : ℕ) (ws : List ℕ) (m room : ℕ) → List Rule
-runRules w ws m room =
-    badWidth w
-    ∷ plain 12 (m ≡ 0)
-    ∷ plain 13 (mostWords < length ws)
-    ∷ plain 14 (room < entries (largest w))
-    ∷ lowest 15 (BadWord (entries (largest w)) ws)
-    ∷ []
+-- after those of the set 12: modulus 0; 13: tape over 1,057 words; 14: multiples buffer under `count` entries; 15: a bad word; place is the first such
+abbrev pub stepRules : (count : ℕ) (ws : List ℕ) (m room : ℕ) → List Rule
+stepRules count ws m room = plain 12 (m ≡ 0) ∷ plain 13 (mostWords < length ws) ∷ plain 14 (room < count) ∷ lowest 15 (BadWord count ws) ∷ []
+
+-- l is the largest digit of the set, which has an entry for each positive digit
+abbrev pub runRules : (w l : ℕ) (ws : List ℕ) (m room : ℕ) → List Rule
+runRules w l ws m room = setRules w l ++ stepRules (entries l) ws m room
 
 -- x is the least nonnegative residue of z modulo m
 pub record Residue (m : ℕ) (z : ℤ) (x : ℕ) : Type 0 where
@@ -46,13 +44,16 @@ pub record Ran : Type 0 where
   pub additions : ℕ
   pub cost : Cost
 
--- and the buffer of multiples afterwards
-pub record Run (w : ℕ) (ws : List ℕ) (m g : ℕ) (multiples₀ : List ℕ) (a : Ran) (multiples : List ℕ) : Type 0 where
-  pub first : First (runRules w ws m (length multiples₀)) (a .refusal) (a .place)
+-- by these rules, with `count` multiples, and the buffer of multiples afterwards
+pub record RunBy (rules : List Rule) (count : ℕ) (ws : List ℕ) (m g : ℕ) (multiples₀ : List ℕ) (a : Ran) (multiples : List ℕ) : Type 0 where
+  pub first : First rules (a .refusal) (a .place)
   pub residue-is : a .refusal ≡ 0 → Residue m (tapeValue ws *ℤ pos g) (a .residue)
   pub residue-none : a .refusal ≢ 0 → a .residue ≡ 0
   pub doublings-are : a .doublings ≡ granted (a .refusal) (doublings ws)
   pub additions-are : a .additions ≡ granted (a .refusal) (additions ws)
-  pub cost-doublings-are : a .cost .doublings ≡ granted (a .refusal) (costOf (entries (largest w)) .doublings)
-  pub cost-additions-are : a .cost .additions ≡ granted (a .refusal) (costOf (entries (largest w)) .additions)
-  pub multiples-are : let count = entries (largest w) in multiples ≡ kept (a .refusal) (multiplesOf count m g ++ drop count multiples₀) multiples₀
+  pub cost-doublings-are : a .cost .doublings ≡ granted (a .refusal) (costOf count .doublings)
+  pub cost-additions-are : a .cost .additions ≡ granted (a .refusal) (costOf count .additions)
+  pub multiples-are : multiples ≡ kept (a .refusal) (multiplesOf count m g ++ drop count multiples₀) multiples₀
+
+abbrev pub Run : (w l : ℕ) (ws : List ℕ) (m g : ℕ) (multiples₀ : List ℕ) (a : Ran) (multiples : List ℕ) → Type 0
+Run w l ws m g multiples₀ a multiples = RunBy (runRules w l ws m (length multiples₀)) (entries l) ws m g multiples₀ a multiples

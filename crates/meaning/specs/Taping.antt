@@ -5,8 +5,8 @@ use mathlib.Core.List.{List, [], _∷_, _++_}
 use Prim.Native.Nat.{ℕ, zero, suc, _-_, _/_, _<_}
 use lib.IntN.{ℤ, pos, negsuc, natAbs}
 use lib.ListN.{length, drop}
-use Rattle.meaning.specs.Digits.{largest, weight, top}
-use Rattle.meaning.specs.Refusals.{Rule, plain, First, granted, kept, badWidth}
+use Rattle.meaning.specs.Digits.{weight, top}
+use Rattle.meaning.specs.Refusals.{Rule, plain, First, granted, kept, setRules}
 use Rattle.meaning.specs.Checking.{longString, badDigit}
 use Rattle.meaning.specs.Words.{Sign, plus, minus, Step, double, load, add, wordOf}
 
@@ -36,9 +36,12 @@ tapeOf [] = []
 tapeOf (d ∷ ds) = down (tapeOf ds) d
 
 -- ---- the call
--- 2, 7, 8, then 11: tape buffer too short for all its words
-abbrev pub tapeRules : (w : ℕ) (ds : List ℤ) (room : ℕ) → List Rule
-tapeRules w ds room = badWidth w ∷ longString ds ∷ badDigit (largest w) ds ∷ plain 11 (room < length (tapeOf ds)) ∷ []
+-- after those of the set 7, 8, then 11: tape buffer too short for all its words
+abbrev pub roomRules : (m : ℕ) (ds : List ℤ) (room : ℕ) → List Rule
+roomRules m ds room = longString ds ∷ badDigit m ds ∷ plain 11 (room < length (tapeOf ds)) ∷ []
+
+abbrev pub tapeRules : (w m : ℕ) (ds : List ℤ) (room : ℕ) → List Rule
+tapeRules w m ds room = setRules w m ++ roomRules m ds room
 
 -- what it answers
 pub record Taped : Type 0 where
@@ -48,10 +51,13 @@ pub record Taped : Type 0 where
   pub doublings : ℕ
   pub additions : ℕ
 
--- word count, doublings (top - 1, or 0), additions (weight - 1, or 0), and the buffer: no word beyond the count is written
-pub record Tape (w : ℕ) (ds : List ℤ) (words₀ : List ℕ) (a : Taped) (words : List ℕ) : Type 0 where
-  pub first : First (tapeRules w ds (length words₀)) (a .refusal) (a .place)
+-- by these rules: word count, doublings (top - 1, or 0), additions (weight - 1, or 0), and the buffer: no word beyond the count is written
+pub record TapeBy (rules : List Rule) (ds : List ℤ) (words₀ : List ℕ) (a : Taped) (words : List ℕ) : Type 0 where
+  pub first : First rules (a .refusal) (a .place)
   pub count-is : a .words ≡ granted (a .refusal) (length (tapeOf ds))
   pub doublings-are : a .doublings ≡ granted (a .refusal) (top ds - 1)
   pub additions-are : a .additions ≡ granted (a .refusal) (weight ds - 1)
   pub words-are : words ≡ kept (a .refusal) (tapeOf ds ++ drop (length (tapeOf ds)) words₀) words₀
+
+abbrev pub Tape : (w m : ℕ) (ds : List ℤ) (words₀ : List ℕ) (a : Taped) (words : List ℕ) → Type 0
+Tape w m ds words₀ a words = TapeBy (tapeRules w m ds (length words₀)) ds words₀ a words

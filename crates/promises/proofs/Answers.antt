@@ -18,13 +18,15 @@ use Rattle.meaning.specs.Scalars.{highestFirst, number, bitCount}
 use Rattle.meaning.specs.Digits.{leastWidth, mostWidth, mostPlaces, largest, inSet, allIn}
 use Rattle.meaning.specs.Forms.{Form}
 use Rattle.meaning.specs.Refusals.{Rule, plain, Fails, First, granted}
-use Rattle.meaning.specs.Recoding.{markWords, recodeRules}
+use Rattle.meaning.specs.Recoding.{markWords}
+use Rattle.meaning.specs.Whole.{wholeRules}
 use Rattle.meaning.specs.Lines.{lineFeed}
 use Rattle.meaning.specs.Hexadecimal.{nibble, allHex, inPairs, bytesOf, written}
 use Rattle.meaning.specs.Frames.{signed, allSigned, Version, lineOf, stated, readRules, Parsed, Read}
 use Rattle.meaning.specs.Requests.{malformed, formOf, widthOf, scalarOf, lineRules, Answer}
 use Rattle.forms.proofs.Refusals.{first-only, Clear, clear}
-use Rattle.forms.proofs.Forms.{form-length, form-digits}
+use Rattle.forms.proofs.Made.{least-between}
+use Rattle.forms.proofs.Forms.{form-length, form-digits, form-whole}
 use Rattle.scalar.proofs.Bytes.{Bytes, number-lt}
 use Rattle.layout.proofs.Frames.{good-none, stated-bare, Back, written-read}
 use Rattle.requests.proofs.Requests.{frame-hex}
@@ -62,7 +64,7 @@ module _ (v : Version) (line out : List ℕ) (A : Answer v line out) (z : A .ref
   scalar = scalarOf line
 
   abbrev rules : List Rule
-  rules = recodeRules (formOf line) (widthOf line) scalar (bitCount scalar + 1) markWords
+  rules = wholeRules (formOf line) (widthOf line) scalar (bitCount scalar + 1) markWords
 
   -- no rule applies to it
   none : T (not (malformed line)) × Clear rules
@@ -100,9 +102,12 @@ module _ (v : Version) (line out : List ℕ) (A : Answer v line out) (z : A .ref
       → (ds : List ℤ) × Form (formOf line) (widthOf line) (number highestFirst scalar) (bitCount scalar) ds × Back ds digits₀ a digits
   answer-read {digits₀} {digits} {a} room R =
       let (ds, f, e) = A .accepted z in
-      let n = form-length (widthOf line) (number highestFirst scalar) (bitCount scalar) (wide .0) small (formOf line) ds f in
+      let w = widthOf line in
+      let set = least-between w (wide .0) in
+      let g = form-whole w (number highestFirst scalar) (bitCount scalar) (wide .0) (formOf line) ds .1 f in
+      let n = form-length w (largest w) (number highestFirst scalar) (bitCount scalar) set small (formOf line) ds g in
       let few : length ds ≤ mostPlaces = omega (arith, n, short) in
-      let all = all-signed (largest (widthOf line)) ds largest-most (form-digits (widthOf line) (number highestFirst scalar) (bitCount scalar) (wide .0) small (formOf line) ds f mof-width) in
+      let all = all-signed (largest w) ds largest-most (form-digits w (largest w) (number highestFirst scalar) (bitCount scalar) set small (formOf line) ds g mof-width) in
       let text = lineOf v ds in
       let count : length out ≡ length text + 1 = ap length e ∙ length-append text (lineFeed ∷ []) in
       let front : take (length out - 1) out ≡ text = ap (take (length out - 1)) e ∙ take-at text (lineFeed ∷ []) (length out - 1) (omega arith) in

@@ -10,13 +10,13 @@ use lib.IntN.{ℤ, pos, ℤ-discrete}
 use lib.ListN.{length, getD}
 use Rattle.laws.proofs.Choices.{not-below, passes}
 use Rattle.meaning.specs.Scalars.{Order, number, mostBytes}
-use Rattle.meaning.specs.Digits.{mostPlaces, largest, inSet, allIn, worth, weight, top, Tally, Apart}
+use Rattle.meaning.specs.Digits.{mostPlaces, inSet, allIn, worth, weight, top, Tally, Apart}
 use Rattle.meaning.specs.Refusals.{Rule, granted}
 use Rattle.meaning.specs.Checking.{BadDigit, Crowded, checkRules, nonadjacentRules, Check}
 use Rattle.forms.proofs.Refusals.{first-only, Clear, first-none, clear}
 use Rattle.forms.proofs.Strings.{all-in, all-at}
-use Rattle.width.specs.Widths.{Wide}
-use Rattle.width.proofs.Widths.{width-fine, wide-of}
+use Rattle.meaning.specs.Sets.{Pair}
+use Rattle.width.proofs.Widths.{set-fine, pair-of}
 
 -- the answer satisfies the promise of a check by these rules
 abbrev pub Keeps : List Rule → List ℤ → Tally → Type 0
@@ -37,12 +37,12 @@ check-determined rules ds a b K L =
     same
 
 -- ---- yes
--- a legal string worth the scalar: at most 529 digits, all of D_w, for a width from 2 to 8 and a scalar of at most 66 bytes that it is worth
-pub record Legal (w : ℕ) (order : Order) (s : List ℕ) (ds : List ℤ) : Type 0 where
-  pub wide : Wide w
+-- a legal string worth the scalar: at most 529 digits, all of a set, and a scalar of at most 66 bytes that it is worth
+pub record Legal (w l : ℕ) (order : Order) (s : List ℕ) (ds : List ℤ) : Type 0 where
+  pub pair : Pair w l
   pub few : length s ≤ mostBytes
   pub short : length ds ≤ mostPlaces
-  pub digits : T (allIn (largest w) ds)
+  pub digits : T (allIn l ds)
   pub worth-is : worth ds ≡ pos (number order s)
 
 fails : (b : Bool) → T b → T (not b) → ⊥
@@ -57,20 +57,20 @@ same a b n = go (ℤ-discrete a b)
     go (yes e) = e
     go (no h) = absurd (n h)
 
-module _ (w : ℕ) (order : Order) (s : List ℕ) (ds : List ℤ) where
+module _ (w l : ℕ) (order : Order) (s : List ℕ) (ds : List ℤ) where
   -- no rule of the plain check applies to a legal string, and to no other
-  pub legal-clear : Legal w order s ds → Clear (checkRules w order s ds)
+  pub legal-clear : Legal w l order s ds → Clear (checkRules w l order s ds)
   legal-clear L =
-      let sound : (p : ℕ) → BadDigit (largest w) ds p → ⊥ = λ p h. fails (inSet (largest w) (getD ds p (pos 0))) (all-at (largest w) ds (L .digits) p (h .within)) (h .bad) in
-      (width-fine (L .wide), ((λ h. omega (arith, L .few)), ((λ h. omega (arith, L .short)), (sound, ((λ h. h (L .worth-is)), tt)))))
+      let sound : (p : ℕ) → BadDigit l ds p → ⊥ = λ p h. fails (inSet l (getD ds p (pos 0))) (all-at l ds (L .digits) p (h .within)) (h .bad) in
+      (set-fine (L .pair) .0, (set-fine (L .pair) .1, ((λ h. omega (arith, L .few)), ((λ h. omega (arith, L .short)), (sound, ((λ h. h (L .worth-is)), tt))))))
 
-  clear-legal : Clear (checkRules w order s ds) → Legal w order s ds
-  clear-legal (a, (b, (c, (d, (e, _))))) =
+  clear-legal : Clear (checkRules w l order s ds) → Legal w l order s ds
+  clear-legal (_, (a, (b, (c, (d, (e, _)))))) =
       record {
-        wide = wide-of w a;
+        pair = pair-of w l a;
         few = not-below b;
         short = not-below c;
-        digits = all-in (largest w) ds (λ i h. passes (inSet (largest w) (getD ds i (pos 0))) (λ f. d i (record { within = h; bad = f })));
+        digits = all-in l ds (λ i h. passes (inSet l (getD ds i (pos 0))) (λ f. d i (record { within = h; bad = f })));
         worth-is = same (worth ds) (pos (number order s)) e;
       }
 
@@ -81,24 +81,24 @@ module _ (w : ℕ) (order : Order) (s : List ℕ) (ds : List ℤ) where
   none-apart : ((p : ℕ) → Crowded w ds p → ⊥) → Apart w ds
   none-apart n =
       record {
-        one-of = λ i j l m h. same (getD ds j (pos 0)) (pos 0) (λ k. n i (record { other = j; above = l; near = m; here = h; there = k }));
+        one-of = λ i j b m h. same (getD ds j (pos 0)) (pos 0) (λ k. n i (record { other = j; above = b; near = m; here = h; there = k }));
       }
 
   -- the plain check says yes for exactly the legal strings
-  pub check-yes : (v : Tally) → Keeps (checkRules w order s ds) ds v → v .refusal ≡ 0 → Legal w order s ds
-  check-yes v K z = clear-legal (clear (checkRules w order s ds) tt (v .refusal) (v .place) (K .first) z)
+  pub check-yes : (v : Tally) → Keeps (checkRules w l order s ds) ds v → v .refusal ≡ 0 → Legal w l order s ds
+  check-yes v K z = clear-legal (clear (checkRules w l order s ds) tt (v .refusal) (v .place) (K .first) z)
 
-  pub check-yes-only : Legal w order s ds → (v : Tally) → Keeps (checkRules w order s ds) ds v → v ≡ record { refusal = 0; place = 0; weight = weight ds; top = top ds }
-  check-yes-only L v K = check-determined (checkRules w order s ds) ds v _ K (record { first = first-none (checkRules w order s ds) (legal-clear L); weight-is = refl; top-is = refl })
+  pub check-yes-only : Legal w l order s ds → (v : Tally) → Keeps (checkRules w l order s ds) ds v → v ≡ record { refusal = 0; place = 0; weight = weight ds; top = top ds }
+  check-yes-only L v K = check-determined (checkRules w l order s ds) ds v _ K (record { first = first-none (checkRules w l order s ds) (legal-clear L); weight-is = refl; top-is = refl })
 
   -- and the nonadjacent check for those of them whose nonzero digits stand at least w places apart
-  pub nonadjacent-yes : (v : Tally) → Keeps (nonadjacentRules w order s ds) ds v → v .refusal ≡ 0 → Legal w order s ds × Apart w ds
+  pub nonadjacent-yes : (v : Tally) → Keeps (nonadjacentRules w l order s ds) ds v → v .refusal ≡ 0 → Legal w l order s ds × Apart w ds
   nonadjacent-yes v K z =
-      let (a, (b, (c, (d, (e, (f, _)))))) = clear (nonadjacentRules w order s ds) tt (v .refusal) (v .place) (K .first) z in
-      (clear-legal (a, (b, (c, (d, (e, tt))))), none-apart f)
+      let (a, (b, (c, (d, (e, (f, (g, _))))))) = clear (nonadjacentRules w l order s ds) tt (v .refusal) (v .place) (K .first) z in
+      (clear-legal (a, (b, (c, (d, (e, (f, tt)))))), none-apart g)
 
-  pub nonadjacent-yes-only : Legal w order s ds → Apart w ds → (v : Tally) → Keeps (nonadjacentRules w order s ds) ds v → v ≡ record { refusal = 0; place = 0; weight = weight ds; top = top ds }
+  pub nonadjacent-yes-only : Legal w l order s ds → Apart w ds → (v : Tally) → Keeps (nonadjacentRules w l order s ds) ds v → v ≡ record { refusal = 0; place = 0; weight = weight ds; top = top ds }
   nonadjacent-yes-only L A v K =
-      let (a, (b, (c, (d, (e, _))))) = legal-clear L in
-      check-determined (nonadjacentRules w order s ds) ds v _ K
-      (record { first = first-none (nonadjacentRules w order s ds) (a, (b, (c, (d, (e, (apart-none A, tt)))))); weight-is = refl; top-is = refl })
+      let (a, (b, (c, (d, (e, (f, _)))))) = legal-clear L in
+      check-determined (nonadjacentRules w l order s ds) ds v _ K
+      (record { first = first-none (nonadjacentRules w l order s ds) (a, (b, (c, (d, (e, (f, (apart-none A, tt))))))); weight-is = refl; top-is = refl })

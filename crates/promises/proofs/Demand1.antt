@@ -10,9 +10,10 @@ use lib.IntN.{ℤ, pos}
 use lib.ListN.{length}
 use Rattle.meaning.specs.Scalars.{Order, number, bitCount}
 use Rattle.meaning.specs.Digits.{worth, Tally}
-use Rattle.meaning.specs.Forms.{Form}
+use Rattle.meaning.specs.Forms.{FormIn}
 use Rattle.meaning.specs.Refusals.{First}
 use Rattle.meaning.specs.Recoding.{markWords, recodeRules, belowRules}
+use Rattle.meaning.specs.Whole.{wholeRules}
 use Rattle.meaning.specs.Checking.{checkRules, nonadjacentRules}
 use Rattle.meaning.specs.Taping.{tapeRules}
 use Rattle.meaning.specs.Running.{runRules, Run, Ran}
@@ -31,26 +32,26 @@ use Rattle.promises.proofs.Tape as Taping
 use Rattle.promises.proofs.Check as Checking
 
 -- ---- each number exactly when, in order
-pub recode-exactly : (form w : ℕ) (order : Order) (s : List ℕ) (digits₀ : List ℤ) (marks₀ : List ℕ) (o : Recoding.Outcome) → Recoding.Keeps form w order s digits₀ marks₀ o
-    → Exactly (recodeRules form w s (length digits₀) (length marks₀)) (o .tally .refusal) (o .tally .place)
-recode-exactly form w order s digits₀ marks₀ o K = exactly (recodeRules form w s (length digits₀) (length marks₀)) tt _ _ (K .first)
+pub recode-exactly : (form w l : ℕ) (order : Order) (s : List ℕ) (digits₀ : List ℤ) (marks₀ : List ℕ) (o : Recoding.Outcome) → Recoding.Keeps form w l order s digits₀ marks₀ o
+    → Exactly (recodeRules form w l s (length digits₀) (length marks₀)) (o .tally .refusal) (o .tally .place)
+recode-exactly form w l order s digits₀ marks₀ o K = exactly (recodeRules form w l s (length digits₀) (length marks₀)) tt _ _ (K .first)
 
-pub below-exactly : (form w : ℕ) (order : Order) (s group : List ℕ) (digits₀ : List ℤ) (marks₀ : List ℕ) (o : Recoding.Outcome) → Below.Keeps form w order s group digits₀ marks₀ o
-    → Exactly (belowRules form w order s group (length digits₀) (length marks₀)) (o .tally .refusal) (o .tally .place)
-below-exactly form w order s group digits₀ marks₀ o K = exactly (belowRules form w order s group (length digits₀) (length marks₀)) tt _ _ (K .first)
+pub below-exactly : (form w l : ℕ) (order : Order) (s group : List ℕ) (digits₀ : List ℤ) (marks₀ : List ℕ) (o : Recoding.Outcome) → Below.Keeps form w l order s group digits₀ marks₀ o
+    → Exactly (belowRules form w l order s group (length digits₀) (length marks₀)) (o .tally .refusal) (o .tally .place)
+below-exactly form w l order s group digits₀ marks₀ o K = exactly (belowRules form w l order s group (length digits₀) (length marks₀)) tt _ _ (K .first)
 
-pub check-exactly : (w : ℕ) (order : Order) (s : List ℕ) (ds : List ℤ) (v : Tally) → Checking.Keeps (checkRules w order s ds) ds v → Exactly (checkRules w order s ds) (v .refusal) (v .place)
-check-exactly w order s ds v K = exactly (checkRules w order s ds) tt _ _ (K .first)
+pub check-exactly : (w l : ℕ) (order : Order) (s : List ℕ) (ds : List ℤ) (v : Tally) → Checking.Keeps (checkRules w l order s ds) ds v → Exactly (checkRules w l order s ds) (v .refusal) (v .place)
+check-exactly w l order s ds v K = exactly (checkRules w l order s ds) tt _ _ (K .first)
 
-pub nonadjacent-exactly : (w : ℕ) (order : Order) (s : List ℕ) (ds : List ℤ) (v : Tally) → Checking.Keeps (nonadjacentRules w order s ds) ds v → Exactly (nonadjacentRules w order s ds) (v .refusal) (v .place)
-nonadjacent-exactly w order s ds v K = exactly (nonadjacentRules w order s ds) tt _ _ (K .first)
+pub nonadjacent-exactly : (w l : ℕ) (order : Order) (s : List ℕ) (ds : List ℤ) (v : Tally) → Checking.Keeps (nonadjacentRules w l order s ds) ds v → Exactly (nonadjacentRules w l order s ds) (v .refusal) (v .place)
+nonadjacent-exactly w l order s ds v K = exactly (nonadjacentRules w l order s ds) tt _ _ (K .first)
 
-pub tape-exactly : (w : ℕ) (ds : List ℤ) (words₀ : List ℕ) (o : Taping.Outcome) → Taping.Keeps w ds words₀ o → Exactly (tapeRules w ds (length words₀)) (o .taped .refusal) (o .taped .place)
-tape-exactly w ds words₀ o K = exactly (tapeRules w ds (length words₀)) tt _ _ (K .first)
+pub tape-exactly : (w l : ℕ) (ds : List ℤ) (words₀ : List ℕ) (o : Taping.Outcome) → Taping.Keeps w l ds words₀ o → Exactly (tapeRules w l ds (length words₀)) (o .taped .refusal) (o .taped .place)
+tape-exactly w l ds words₀ o K = exactly (tapeRules w l ds (length words₀)) tt _ _ (K .first)
 
-pub run-exactly : (w : ℕ) (ws : List ℕ) (m g : ℕ) (multiples₀ : List ℕ) (a : Ran) (multiples : List ℕ) → Run w ws m g multiples₀ a multiples
-    → Exactly (runRules w ws m (length multiples₀)) (a .refusal) (a .place)
-run-exactly w ws m g multiples₀ a multiples K = exactly (runRules w ws m (length multiples₀)) tt _ _ (K .first)
+pub run-exactly : (w l : ℕ) (ws : List ℕ) (m g : ℕ) (multiples₀ : List ℕ) (a : Ran) (multiples : List ℕ) → Run w l ws m g multiples₀ a multiples
+    → Exactly (runRules w l ws m (length multiples₀)) (a .refusal) (a .place)
+run-exactly w l ws m g multiples₀ a multiples K = exactly (runRules w l ws m (length multiples₀)) tt _ _ (K .first)
 
 pub reader-exactly : (w : ℕ) (order : Order) (s : List ℕ) (r : ℕ) → Holds w s r → Exactly (readerRules w s) r 0
 reader-exactly w order s r H = exactly (readerRules w s) tt _ _ H
@@ -69,7 +70,7 @@ read-exactly line digits₀ a digits K = exactly (readRules line (length digits�
 pub record LineExactly (line : List ℕ) (r : ℕ) : Type 0 where
   pub malformed-first : T (malformed line) → r ≡ 16
   pub malformed-only : r ≡ 16 → T (malformed line)
-  pub others : (T (malformed line) → ⊥) → let s = scalarOf line in Exactly (recodeRules (formOf line) (widthOf line) s (bitCount s + 1) markWords) r 0
+  pub others : (T (malformed line) → ⊥) → let s = scalarOf line in Exactly (wholeRules (formOf line) (widthOf line) s (bitCount s + 1) markWords) r 0
 
 pub line-exactly : (v : Version) (line out : List ℕ) (A : Answer v line out) → LineExactly line (A .refusal)
 line-exactly v line out A =
@@ -81,31 +82,32 @@ line-exactly v line out A =
     }
   where
     others : (T (malformed line) → ⊥) → First (lineRules line) (A .refusal) 0
-        → let s = scalarOf line in Exactly (recodeRules (formOf line) (widthOf line) s (bitCount s + 1) markWords) (A .refusal) 0
+        → let s = scalarOf line in Exactly (wholeRules (formOf line) (widthOf line) s (bitCount s + 1) markWords) (A .refusal) 0
     others n (inl (e, (h, _))) = absurd (n h)
     others n (inr (_, f)) = exactly _ tt (A .refusal) 0 f
 
--- ---- n + 1 places always suffice: in every form, at every width that it has, each scalar has a string of so many, which is worth it, and no digit is needed above them
-pub places-suffice : (form w : ℕ) → Allowed form w → (order : Order) (s : List ℕ) → Bytes s → (ds : List ℤ) × Form form w (number order s) (bitCount s) ds × (length ds ≡ bitCount s + 1) × (worth ds ≡ pos (number order s))
-places-suffice form w a order s bytes =
+-- ---- n + 1 places always suffice: in every form, in every set that it has, each scalar has a string of so many, which is worth it, and no digit is needed above them
+pub places-suffice : (form w l : ℕ) → Allowed form w l → (order : Order) (s : List ℕ) → Bytes s → (ds : List ℤ) × FormIn form w l (number order s) (bitCount s) ds × (length ds ≡ bitCount s + 1) × (worth ds ≡ pos (number order s))
+places-suffice form w l a order s bytes =
     let small = number-lt order s bytes in
-    let (ds, f) = form-exists w (number order s) (bitCount s) (a .wide .0) small form (a .least) (a .most) in
-    (ds, f, form-length w (number order s) (bitCount s) (a .wide .0) small form ds f, form-worth w (number order s) (bitCount s) (a .wide .0) small form ds f)
+    let set = a .pair .between in
+    let (ds, f) = form-exists w l (number order s) (bitCount s) set small form (a .least) (a .most) in
+    (ds, f, form-length w l (number order s) (bitCount s) set small form ds f, form-worth w l (number order s) (bitCount s) set small form ds f)
 
 -- ---- no lent buffer differs after a refusal
-pub recode-kept : (form w : ℕ) (order : Order) (s : List ℕ) (digits₀ : List ℤ) (marks₀ : List ℕ) (o : Recoding.Outcome) → Recoding.Keeps form w order s digits₀ marks₀ o → o .tally .refusal ≢ 0
+pub recode-kept : (form w l : ℕ) (order : Order) (s : List ℕ) (digits₀ : List ℤ) (marks₀ : List ℕ) (o : Recoding.Outcome) → Recoding.Keeps form w l order s digits₀ marks₀ o → o .tally .refusal ≢ 0
     → (o .digits ≡ digits₀) × (o .marks ≡ marks₀)
-recode-kept form w order s digits₀ marks₀ o K n = (K .refused n .digits-are, K .refused n .marks-are)
+recode-kept form w l order s digits₀ marks₀ o K n = (K .refused n .digits-are, K .refused n .marks-are)
 
-pub below-kept : (form w : ℕ) (order : Order) (s group : List ℕ) (digits₀ : List ℤ) (marks₀ : List ℕ) (o : Recoding.Outcome) → Below.Keeps form w order s group digits₀ marks₀ o → o .tally .refusal ≢ 0
+pub below-kept : (form w l : ℕ) (order : Order) (s group : List ℕ) (digits₀ : List ℤ) (marks₀ : List ℕ) (o : Recoding.Outcome) → Below.Keeps form w l order s group digits₀ marks₀ o → o .tally .refusal ≢ 0
     → (o .digits ≡ digits₀) × (o .marks ≡ marks₀)
-below-kept form w order s group digits₀ marks₀ o K n = (K .refused n .digits-are, K .refused n .marks-are)
+below-kept form w l order s group digits₀ marks₀ o K n = (K .refused n .digits-are, K .refused n .marks-are)
 
-pub tape-kept : (w : ℕ) (ds : List ℤ) (words₀ : List ℕ) (o : Taping.Outcome) → Taping.Keeps w ds words₀ o → o .taped .refusal ≢ 0 → o .words ≡ words₀
-tape-kept w ds words₀ o K n = K .words-are ∙ kept-lent (o .taped .refusal) _ words₀ n
+pub tape-kept : (w l : ℕ) (ds : List ℤ) (words₀ : List ℕ) (o : Taping.Outcome) → Taping.Keeps w l ds words₀ o → o .taped .refusal ≢ 0 → o .words ≡ words₀
+tape-kept w l ds words₀ o K n = K .words-are ∙ kept-lent (o .taped .refusal) _ words₀ n
 
-pub run-kept : (w : ℕ) (ws : List ℕ) (m g : ℕ) (multiples₀ : List ℕ) (a : Ran) (multiples : List ℕ) → Run w ws m g multiples₀ a multiples → a .refusal ≢ 0 → multiples ≡ multiples₀
-run-kept w ws m g multiples₀ a multiples K n = K .multiples-are ∙ kept-lent (a .refusal) _ multiples₀ n
+pub run-kept : (w l : ℕ) (ws : List ℕ) (m g : ℕ) (multiples₀ : List ℕ) (a : Ran) (multiples : List ℕ) → Run w l ws m g multiples₀ a multiples → a .refusal ≢ 0 → multiples ≡ multiples₀
+run-kept w l ws m g multiples₀ a multiples K n = K .multiples-are ∙ kept-lent (a .refusal) _ multiples₀ n
 
 pub write-kept : (v : Version) (ds : List ℤ) (out₀ : List ℕ) (a : Framed) (out : List ℕ) → Write v ds out₀ a out → a .refusal ≢ 0 → out ≡ out₀
 write-kept v ds out₀ a out K n = K .out-is ∙ kept-lent (a .refusal) _ out₀ n

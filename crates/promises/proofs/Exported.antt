@@ -22,8 +22,8 @@ c-ran-same a b q = ap plain q
     plain : Running.Ran → Ran
     plain r = record { refusal = r .refusal; place = r .place; residue = r .residue; doublings = r .doublings; additions = r .additions; cost = record { doublings = r .cost .doublings; additions = r .cost .additions } }
 
-pub c-run-determined : (w : ℕ) (ws : List ℕ) (m g : ℕ) (multiples₀ : List ℕ) (a b : Ran) (ms ns : List ℕ) → Run w ws m g multiples₀ (ran a) ms → Run w ws m g multiples₀ (ran b) ns → (a ≡ b) × (ms ≡ ns)
-c-run-determined w ws m g multiples₀ a b ms ns K L = let (q, e) = run-plain w ws m g multiples₀ (ran a) (ran b) ms ns K L in (c-ran-same a b q, e)
+pub c-run-determined : (w l : ℕ) (ws : List ℕ) (m g : ℕ) (multiples₀ : List ℕ) (a b : Ran) (ms ns : List ℕ) → Run w l ws m g multiples₀ (ran a) ms → Run w l ws m g multiples₀ (ran b) ns → (a ≡ b) × (ms ≡ ns)
+c-run-determined w l ws m g multiples₀ a b ms ns K L = let (q, e) = run-plain w l ws m g multiples₀ (ran a) (ran b) ms ns K L in (c-ran-same a b q, e)
 
 -- ---- the reader
 pub c-read-at-determined : (w : ℕ) (order : Order) (s : List ℕ) (k : ℕ) (a b : Reading) → Reads w order s k (a .refusal) (a .given) (a .digit) → Reads w order s k (b .refusal) (b .given) (b .digit) → a ≡ b

@@ -4,7 +4,7 @@ use mathlib.Core.Path.{_≡_, refl}
 use mathlib.Core.Logic.{_≢_, _⊎_, inl, inr, ⊎-elim}
 use mathlib.Core.Bool.{Bool, true, false, not}
 use mathlib.Core.List.{List, [], _∷_, _++_}
-use Prim.Native.Nat.{ℕ, zero, suc, _+_, _-_, _<_, _≤_}
+use Prim.Native.Nat.{ℕ, zero, suc, _+_, _-_, _%_, _^_, _<_, _≤_}
 use native.Mathlib.Omega.{arith}
 use native.Mathlib.Decide.{decLt, decLe, ℕ-discrete}
 use lib.Dec.{T}
@@ -14,9 +14,10 @@ use Rattle.laws.proofs.Choices.{not-below}
 use Rattle.laws.proofs.Division.{floor}
 use Rattle.meaning.specs.Scalars.{Order, highestFirst, number, bitCount}
 use Rattle.meaning.specs.Digits.{leastWidth, mostWidth, largest, entries, inSet, worth, weight, top, mostPlaces, Tally}
+use Rattle.meaning.specs.Sets.{Pair}
 use Rattle.meaning.specs.Forms.{mostForm}
-use Rattle.meaning.specs.Refusals.{Rule, plain, lowest, numberOf, Lowest, Applies, Fails, First, granted, kept, badWidth}
-use Rattle.meaning.specs.Recoding.{markWords, marksOf, rulesWith, recodeRules, groupRules, belowRules}
+use Rattle.meaning.specs.Refusals.{Rule, plain, lowest, numberOf, Lowest, Applies, Fails, First, granted, kept, badWidth, badSet}
+use Rattle.meaning.specs.Recoding.{markWords, marksOf, setFor, rulesWith, recodeRules, groupRules, belowRules}
 use Rattle.meaning.specs.Checking.{BadDigit, badDigit, Crowded, checkRules, nonadjacentRules}
 use Rattle.meaning.specs.Words.{codeOf, entryOf}
 use Rattle.meaning.specs.Walks.{tapeValue, doublings, additions, IsLoad, Good}
@@ -27,6 +28,7 @@ use Rattle.meaning.specs.Hexadecimal.{bytesOf}
 use Rattle.meaning.specs.Frames.{Version, lineOf, writeRules, Framed, Write, weightIn, topIn, placesIn, digitsIn, stated, unreadable, unfit, readRules, Parsed, Read}
 use Rattle.forms.proofs.Refusals.{clear, first-only}
 use Rattle.forms.proofs.Forms.{form-exists}
+use Rattle.width.proofs.Widths.{pair-of}
 use Rattle.scalar.proofs.Bytes.{Bytes, number-lt}
 use Rattle.promises.proofs.Recode as Recoding
 use Rattle.promises.proofs.Below as Below
@@ -119,6 +121,17 @@ true? false = no (λ t. t)
 width? : (w : ℕ) → Decided (badWidth w)
 width? w = by (or? (decLt w leastWidth) (decLt mostWidth w))
 
+pair? : (w l : ℕ) → Dec (Pair w l)
+pair? w l =
+    go (and? (and? (decLe leastWidth w) (and? (ℕ-discrete (l % 2) 1) (and? (decLe (largest w) l) (decLe l (2 ^ w - 1))))) (and? (decLe w mostWidth) (if? (decLt (largest w) l) (decLt w mostWidth))))
+  where
+    go : Dec (((leastWidth ≤ w) × ((l % 2 ≡ 1) × ((largest w ≤ l) × (l ≤ 2 ^ w - 1)))) × ((w ≤ mostWidth) × (largest w < l → w < mostWidth))) → Dec (Pair w l)
+    go (yes ((a, (b, (c, d))), (e, f))) = yes (record { between = record { wide = a; odd = b; least = c; most = d }; most = e; above = f })
+    go (no n) = no (λ p. let b = p .between in n ((b .wide, (b .odd, (b .least, b .most))), (p .most, p .above)))
+
+set? : (w l : ℕ) → Decided (badSet w l)
+set? w l = by (not? (pair? w l))
+
 bad? : (m : ℕ) (ds : List ℤ) → Decided (badDigit m ds)
 bad? m ds = among (BadDigit m ds) one (length ds) (λ p b. b .within)
   where
@@ -134,28 +147,28 @@ decided-before : (xs ys : List Rule) → AllDecided xs → AllDecided ys → All
 decided-before [] ys a b = b
 decided-before (x ∷ xs) ys (d, a) b = (d, λ n. decided-before xs ys (a n) b)
 
-recode-decided : (more : List Rule) → AllDecided more → (form w : ℕ) (s : List ℕ) (places words : ℕ) → AllDecided (rulesWith more form w s places words)
-recode-decided more d form w s places words = (
+recode-decided : (more : List Rule) → AllDecided more → (form w l : ℕ) (s : List ℕ) (places words : ℕ) → AllDecided (rulesWith (setFor form w l) more form w s places words)
+recode-decided more d form w l s places words = (
   by (or? (decLt form 1) (decLt mostForm form)),
   λ _. (
     by (or? (or? (decLt w leastWidth) (decLt mostWidth w)) (and? (ℕ-discrete form 1) (not? (ℕ-discrete w 2)))),
     λ _. (
-      by (decLt 66 (length s)),
-      λ _. decided-before more _ d (by (decLt places (bitCount s + 1)), λ _. (by (decLt words markWords), λ _. tt)),
+      by (or? (not? (pair? w l)) (and? (not? (ℕ-discrete form 2)) (not? (ℕ-discrete l (largest w))))),
+      λ _. (by (decLt 66 (length s)), λ _. decided-before more _ d (by (decLt places (bitCount s + 1)), λ _. (by (decLt words markWords), λ _. tt))),
     ),
   ),
 )
 
-pub recode-kept-by : (form w : ℕ) (order : Order) (s : List ℕ) → Bytes s → (digits₀ : List ℤ) (marks₀ : List ℕ) → (o : Recoding.Outcome) × Recoding.Keeps form w order s digits₀ marks₀ o
-recode-kept-by form w order s bytes digits₀ marks₀ = let (r, p, f) = first-exists rules (recode-decided [] tt form w s (length digits₀) (length marks₀)) in go r p f
+pub recode-kept-by : (form w l : ℕ) (order : Order) (s : List ℕ) → Bytes s → (digits₀ : List ℤ) (marks₀ : List ℕ) → (o : Recoding.Outcome) × Recoding.Keeps form w l order s digits₀ marks₀ o
+recode-kept-by form w l order s bytes digits₀ marks₀ = let (r, p, f) = first-exists rules (recode-decided [] tt form w l s (length digits₀) (length marks₀)) in go r p f
   where
     rules : List Rule
-    rules = recodeRules form w s (length digits₀) (length marks₀)
+    rules = recodeRules form w l s (length digits₀) (length marks₀)
 
-    go : (r p : ℕ) → First rules r p → (o : Recoding.Outcome) × Recoding.Keeps form w order s digits₀ marks₀ o
+    go : (r p : ℕ) → First rules r p → (o : Recoding.Outcome) × Recoding.Keeps form w l order s digits₀ marks₀ o
     go zero p f =
-        let (a, (b, _)) = clear rules tt 0 p f refl in
-        let (ds, F) = form-exists w (number order s) (bitCount s) (not-below (λ l. b (inl (inl l)))) (number-lt order s bytes) form (not-below (λ l. a (inl l))) (not-below (λ l. a (inr l))) in (
+        let (a, (_, (b, _))) = clear rules tt 0 p f refl in
+        let (ds, F) = form-exists w l (number order s) (bitCount s) (pair-of w l (λ h. b (inl h)) .between) (number-lt order s bytes) form (not-below (λ h. a (inl h))) (not-below (λ h. a (inr h))) in (
           record { tally = record { refusal = 0; place = p; weight = weight ds; top = top ds }; digits = ds ++ drop (bitCount s + 1) digits₀; marks = marksOf ds ++ drop markWords marks₀ },
           record {
             first = f;
@@ -173,17 +186,17 @@ group-decided : (order : Order) (s group : List ℕ) → AllDecided (groupRules 
 group-decided order s group =
     (by (or? (or? (ℕ-discrete (length group) 0) (ℕ-discrete (number highestFirst group) 0)) (decLt 66 (length group))), λ _. (by (decLe (number highestFirst group) (number order s)), λ _. tt))
 
-pub below-kept-by : (form w : ℕ) (order : Order) (s group : List ℕ) → Bytes s → (digits₀ : List ℤ) (marks₀ : List ℕ) → (o : Recoding.Outcome) × Below.Keeps form w order s group digits₀ marks₀ o
-below-kept-by form w order s group bytes digits₀ marks₀ =
-    let (r, p, f) = first-exists rules (recode-decided (groupRules order s group) (group-decided order s group) form w s (length digits₀) (length marks₀)) in
-    go r p f (recode-kept-by form w order s bytes digits₀ marks₀)
+pub below-kept-by : (form w l : ℕ) (order : Order) (s group : List ℕ) → Bytes s → (digits₀ : List ℤ) (marks₀ : List ℕ) → (o : Recoding.Outcome) × Below.Keeps form w l order s group digits₀ marks₀ o
+below-kept-by form w l order s group bytes digits₀ marks₀ =
+    let (r, p, f) = first-exists rules (recode-decided (groupRules order s group) (group-decided order s group) form w l s (length digits₀) (length marks₀)) in
+    go r p f (recode-kept-by form w l order s bytes digits₀ marks₀)
   where
     rules : List Rule
-    rules = belowRules form w order s group (length digits₀) (length marks₀)
+    rules = belowRules form w l order s group (length digits₀) (length marks₀)
 
-    go : (r p : ℕ) → First rules r p → (o : Recoding.Outcome) × Recoding.Keeps form w order s digits₀ marks₀ o → (o : Recoding.Outcome) × Below.Keeps form w order s group digits₀ marks₀ o
+    go : (r p : ℕ) → First rules r p → (o : Recoding.Outcome) × Recoding.Keeps form w l order s digits₀ marks₀ o → (o : Recoding.Outcome) × Below.Keeps form w l order s group digits₀ marks₀ o
     go zero p f (o, K) =
-        let (e, q) = first-only (recodeRules form w s (length digits₀) (length marks₀)) (K .first) (without-group form w order s group (length digits₀) (length marks₀) (below-fine form w order s group (length digits₀) (length marks₀) f refl) f) in
+        let (e, q) = first-only (recodeRules form w l s (length digits₀) (length marks₀)) (K .first) (without-group form w l order s group (length digits₀) (length marks₀) (below-fine form w l order s group (length digits₀) (length marks₀) f refl) f) in
         (o, record { first = rw (e, q) f; accepted = K .accepted; refused = K .refused })
     go (suc r) p f _ = (
       record { tally = record { refusal = suc r; place = p; weight = 0; top = 0 }; digits = digits₀; marks = marks₀ },
@@ -191,9 +204,9 @@ below-kept-by form w order s group bytes digits₀ marks₀ =
     )
 
 -- ---- the checks
-check-decided : (w : ℕ) (order : Order) (s : List ℕ) (ds : List ℤ) → AllDecided (checkRules w order s ds)
-check-decided w order s ds =
-    (width? w, λ _. (by (decLt 66 (length s)), λ _. (by (decLt 529 (length ds)), λ _. (bad? (largest w) ds, λ _. (by (not? (ℤ-discrete (worth ds) (pos (number order s)))), λ _. tt)))))
+check-decided : (w l : ℕ) (order : Order) (s : List ℕ) (ds : List ℤ) → AllDecided (checkRules w l order s ds)
+check-decided w l order s ds =
+    (width? w, λ _. (set? w l, λ _. (by (decLt 66 (length s)), λ _. (by (decLt 529 (length ds)), λ _. (bad? l ds, λ _. (by (not? (ℤ-discrete (worth ds) (pos (number order s)))), λ _. tt))))))
 
 crowded? : (w : ℕ) (ds : List ℤ) → Decided (lowest 10 (Crowded w ds))
 crowded? w ds = among (Crowded w ds) one (length ds) (λ p c. there p (c .here))
@@ -216,26 +229,26 @@ crowded? w ds = among (Crowded w ds) one (length ds) (λ p c. there p (c .here))
         go (inl (j, l, (c, _))) = yes (record { other = j; above = c .0; near = l; here = c .1 .0; there = c .1 .1 })
         go (inr f) = no (λ c. f (c .other) (c .near) (c .above, (c .here, c .there)))
 
-nonadjacent-decided : (w : ℕ) (order : Order) (s : List ℕ) (ds : List ℤ) → AllDecided (nonadjacentRules w order s ds)
-nonadjacent-decided w order s ds =
-    (width? w, λ _. (by (decLt 66 (length s)), λ _. (by (decLt 529 (length ds)), λ _. (bad? (largest w) ds, λ _. (by (not? (ℤ-discrete (worth ds) (pos (number order s)))), λ _. (crowded? w ds, λ _. tt))))))
+nonadjacent-decided : (w l : ℕ) (order : Order) (s : List ℕ) (ds : List ℤ) → AllDecided (nonadjacentRules w l order s ds)
+nonadjacent-decided w l order s ds =
+    (width? w, λ _. (set? w l, λ _. (by (decLt 66 (length s)), λ _. (by (decLt 529 (length ds)), λ _. (bad? l ds, λ _. (by (not? (ℤ-discrete (worth ds) (pos (number order s)))), λ _. (crowded? w ds, λ _. tt)))))))
 
 judged-by : (rules : List Rule) → AllDecided rules → (ds : List ℤ) → (v : Tally) × Checking.Keeps rules ds v
 judged-by rules d ds =
     let (r, p, f) = first-exists rules d in
     (record { refusal = r; place = p; weight = granted r (weight ds); top = granted r (top ds) }, record { first = f; weight-is = refl; top-is = refl })
 
-pub check-kept-by : (w : ℕ) (order : Order) (s : List ℕ) (ds : List ℤ) → (v : Tally) × Checking.Keeps (checkRules w order s ds) ds v
-check-kept-by w order s ds = judged-by (checkRules w order s ds) (check-decided w order s ds) ds
+pub check-kept-by : (w l : ℕ) (order : Order) (s : List ℕ) (ds : List ℤ) → (v : Tally) × Checking.Keeps (checkRules w l order s ds) ds v
+check-kept-by w l order s ds = judged-by (checkRules w l order s ds) (check-decided w l order s ds) ds
 
-pub nonadjacent-kept-by : (w : ℕ) (order : Order) (s : List ℕ) (ds : List ℤ) → (v : Tally) × Checking.Keeps (nonadjacentRules w order s ds) ds v
-nonadjacent-kept-by w order s ds = judged-by (nonadjacentRules w order s ds) (nonadjacent-decided w order s ds) ds
+pub nonadjacent-kept-by : (w l : ℕ) (order : Order) (s : List ℕ) (ds : List ℤ) → (v : Tally) × Checking.Keeps (nonadjacentRules w l order s ds) ds v
+nonadjacent-kept-by w l order s ds = judged-by (nonadjacentRules w l order s ds) (nonadjacent-decided w l order s ds) ds
 
 -- ---- tape
-pub tape-kept-by : (w : ℕ) (ds : List ℤ) (words₀ : List ℕ) → (o : Taping.Outcome) × Taping.Keeps w ds words₀ o
-tape-kept-by w ds words₀ =
+pub tape-kept-by : (w l : ℕ) (ds : List ℤ) (words₀ : List ℕ) → (o : Taping.Outcome) × Taping.Keeps w l ds words₀ o
+tape-kept-by w l ds words₀ =
     let tape = tapeOf ds in
-    let (r, p, f) = first-exists (tapeRules w ds (length words₀)) (width? w, λ _. (by (decLt 529 (length ds)), λ _. (bad? (largest w) ds, λ _. (by (decLt (length words₀) (length tape)), λ _. tt)))) in (
+    let (r, p, f) = first-exists (tapeRules w l ds (length words₀)) (width? w, λ _. (set? w l, λ _. (by (decLt 529 (length ds)), λ _. (bad? l ds, λ _. (by (decLt (length words₀) (length tape)), λ _. tt))))) in (
       record {
         taped = record { refusal = r; place = p; words = granted r (length tape); doublings = granted r (top ds - 1); additions = granted r (weight ds - 1) };
         words = kept r (tape ++ drop (length tape) words₀) words₀;
@@ -264,19 +277,19 @@ word? count ws = among (BadWord count ws) one (length ws) (λ p b. b .within)
         go (yes h) = yes (record { within = h .0; bad = h .1 })
         go (no n) = no (λ b. n (b .within, b .bad))
 
-pub run-kept-by : (w : ℕ) (ws : List ℕ) (m g : ℕ) (multiples₀ : List ℕ) → (a : Ran) × (multiples : List ℕ) × Run w ws m g multiples₀ a multiples
-run-kept-by w ws m g multiples₀ =
-    let count = entries (largest w) in
-    let (r, p, f) = first-exists rules (width? w, λ _. (by (ℕ-discrete m 0), λ _. (by (decLt 1057 (length ws)), λ _. (by (decLt (length multiples₀) count), λ _. (word? count ws, λ _. tt))))) in
+pub run-kept-by : (w l : ℕ) (ws : List ℕ) (m g : ℕ) (multiples₀ : List ℕ) → (a : Ran) × (multiples : List ℕ) × Run w l ws m g multiples₀ a multiples
+run-kept-by w l ws m g multiples₀ =
+    let count = entries l in
+    let (r, p, f) = first-exists rules (width? w, λ _. (set? w l, λ _. (by (ℕ-discrete m 0), λ _. (by (decLt 1057 (length ws)), λ _. (by (decLt (length multiples₀) count), λ _. (word? count ws, λ _. tt)))))) in
     go r p f
   where
     rules : List Rule
-    rules = runRules w ws m (length multiples₀)
+    rules = runRules w l ws m (length multiples₀)
 
-    go : (r p : ℕ) → First rules r p → (a : Ran) × (multiples : List ℕ) × Run w ws m g multiples₀ a multiples
+    go : (r p : ℕ) → First rules r p → (a : Ran) × (multiples : List ℕ) × Run w l ws m g multiples₀ a multiples
     go zero p f =
-        let count = entries (largest w) in
-        let (_, (some, _)) = clear rules tt 0 p f refl in
+        let count = entries l in
+        let (_, (_, (some, _))) = clear rules tt 0 p f refl in
         let F = floor (tapeValue ws *ℤ pos g) m (positive some) in (
           record { refusal = 0; place = p; residue = F .rem; doublings = doublings ws; additions = additions ws; cost = costOf count },
           multiplesOf count m g ++ drop count multiples₀,
@@ -293,7 +306,7 @@ run-kept-by w ws m g multiples₀ =
         )
       where
         positive : (m ≡ 0 → ⊥) → 0 < m
-        positive n = not-below (λ l. n (omega arith))
+        positive n = not-below (λ h. n (omega arith))
     go (suc r) p f = (
       record { refusal = suc r; place = p; residue = 0; doublings = 0; additions = 0; cost = record { doublings = 0; additions = 0 } },
       multiples₀,

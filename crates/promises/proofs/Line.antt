@@ -4,7 +4,7 @@ use mathlib.Core.Path.{_≡_, refl, sym, ap, subst, _∙_}
 use mathlib.Core.Logic.{_≢_, inl, inr}
 use mathlib.Core.Bool.{Bool, true, false, not}
 use mathlib.Core.List.{List, [], _∷_, _++_}
-use Prim.Native.Nat.{ℕ, _+_, _≤_}
+use Prim.Native.Nat.{ℕ, _≤_}
 use native.Mathlib.Omega.{arith}
 use native.Mathlib.Decide.{decLe, ℕ-discrete}
 use lib.Dec.{T}
@@ -12,7 +12,7 @@ use lib.IntN.{ℤ}
 use lib.ListN.{length, take, drop, take-append-drop}
 use lib.Seq.{length-take-le}
 use Rattle.meaning.specs.Scalars.{highestFirst, number, bitCount}
-use Rattle.meaning.specs.Digits.{mostPlaces, Tally}
+use Rattle.meaning.specs.Digits.{largest, mostPlaces, Tally}
 use Rattle.meaning.specs.Refusals.{First}
 use Rattle.meaning.specs.Recoding.{markWords}
 use Rattle.meaning.specs.Lines.{lineFeed, Each}
@@ -20,10 +20,12 @@ use Rattle.meaning.specs.Hexadecimal.{written}
 use Rattle.meaning.specs.Frames.{Version, lineOf}
 use Rattle.meaning.specs.Requests.{malformed, formOf, widthOf, scalarOf, lineRules, Answer, Answers}
 use Rattle.forms.proofs.Refusals.{first-only}
-use Rattle.forms.proofs.Forms.{form-same}
+use Rattle.forms.proofs.Made.{least-between}
+use Rattle.forms.proofs.Forms.{form-same, form-whole}
+use Rattle.laws.proofs.Choices.{not-below}
 use Rattle.requests.specs.Answered.{mostFrame, mostAnswer, Lent, Kept, Worked, Filled, Answered}
 use Rattle.promises.proofs.Recode as Recoding
-use Rattle.promises.proofs.Recode.{accepted-width, recode-determined}
+use Rattle.promises.proofs.Recode.{whole-determined}
 
 -- ---- one line
 -- a refused line is the same in both versions
@@ -36,7 +38,9 @@ module _ (v : Version) (line : List ℕ) where
   -- an accepted line has a width of at least 2
   two : {r : ℕ} → First (lineRules line) r 0 → r ≡ 0 → 2 ≤ widthOf line
   two (inl (e, h)) z = absurd (omega arith)
-  two (inr (_, f)) z = accepted-width [] (formOf line) (widthOf line) (scalarOf line) (bitCount (scalarOf line) + 1) markWords 0 f z
+  two (inr (_, inl (e, h))) z = absurd (omega arith)
+  two (inr (_, inr (_, inl (e, h)))) z = absurd (omega arith)
+  two (inr (_, inr (_, inr (n, _)))) z = not-below (λ h. n (inl (inl h)))
 
   pub answer-determined : (a b : List ℕ) → Answer v line a → Answer v line b → a ≡ b
   answer-determined a b A B = go (ℕ-discrete (A .refusal) 0)
@@ -48,7 +52,11 @@ module _ (v : Version) (line : List ℕ) where
       go (yes z) =
           let (ds, f, e) = A .accepted z in
           let (es, g, h) = B .accepted (sym same ∙ z) in
-          let d = form-same (widthOf line) (number highestFirst (scalarOf line)) (bitCount (scalarOf line)) (two (A .first) z) (formOf line) ds es f g in
+          let w = widthOf line in
+          let N = number highestFirst (scalarOf line) in
+          let n = bitCount (scalarOf line) in
+          let wide = two (A .first) z in
+          let d = form-same w (largest w) N n (least-between w wide) (formOf line) ds es (form-whole w N n wide (formOf line) ds .1 f) (form-whole w N n wide (formOf line) es .1 g) in
           e ∙ ap (λ x. lineOf v x ++ (lineFeed ∷ [])) d ∙ sym h
       go (no n) = refused-same v v line a b A B n
 
@@ -101,7 +109,7 @@ module _ (v : Version) (line bytes₀ : List ℕ) (digits₀ : List ℤ) (marks�
   -- what is worked in is the same
   same-work : (o o′ : Outcome) → Works o → Works o′ → (o .bytes ≡ o′ .bytes) × (o .digits ≡ o′ .digits) × (o .marks ≡ o′ .marks)
   same-work o o′ (a, W) (a′, W′) =
-      let e = recode-determined (formOf line) (widthOf line) highestFirst (scalarOf line) digits₀ marks₀
+      let e = whole-determined (formOf line) (widthOf line) highestFirst (scalarOf line) digits₀ marks₀
       (record { tally = a; digits = o .digits; marks = o .marks }) (record { tally = a′; digits = o′ .digits; marks = o′ .marks }) (W .recoded) (W′ .recoded) in
       (W .bytes-are ∙ sym (W′ .bytes-are), ap (λ (x : Recoding.Outcome). x .digits) e, ap (λ (x : Recoding.Outcome). x .marks) e)
 

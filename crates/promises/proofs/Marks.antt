@@ -51,13 +51,13 @@ marks-bit ds rest j h =
     ∙ marked-bit 64 (drop (64 * q) ds) (j % 64) (omega arith)
     ∙ ap nonzero (getD-drop (64 * q) ds (j % 64) (pos 0) ∙ ap (λ t. getD ds t (pos 0)) e)
 
-module _ {form w : ℕ} {order : Order} {s : List ℕ} {digits₀ : List ℤ} {marks₀ : List ℕ} (o : Recoding.Outcome) (K : Recoding.Keeps form w order s digits₀ marks₀ o)
+module _ (form w l : ℕ) {order : Order} {s : List ℕ} {digits₀ : List ℤ} {marks₀ : List ℕ} (o : Recoding.Outcome) (K : Recoding.Keeps form w l order s digits₀ marks₀ o)
     (z : o .tally .refusal ≡ 0) (bytes : Bytes s) where
   abbrev ds : List ℤ
-  ds = string o K z bytes
+  ds = string form w l o K z bytes
 
   marks-are : o .marks ≡ marksOf ds ++ drop markWords marks₀
-  marks-are = K .accepted z .marks-are ∙ ap (λ x. marksOf x ++ drop markWords marks₀) (sym (recoded-string o K z bytes))
+  marks-are = K .accepted z .marks-are ∙ ap (λ x. marksOf x ++ drop markWords marks₀) (sym (recoded-string form w l o K z bytes))
 
   marked-as : (j : ℕ) → j < 64 * markWords → markAt (o .marks) j ≡ nonzero (getD ds j (pos 0))
   marked-as j h = ap (λ x. markAt x j) marks-are ∙ marks-bit ds (drop markWords marks₀) j h
@@ -71,7 +71,7 @@ module _ {form w : ℕ} {order : Order} {s : List ℕ} {digits₀ : List ℤ} {m
   marks-clear j h e = marked-as j h ∙ nonzero-none e
 
   short : length ds ≤ 529
-  short = recoded-legal o K z bytes .short
+  short = recoded-legal form w l o K z bytes .short
 
   -- so for the places above n
   pub marks-above : (j : ℕ) → bitCount s < j → j < 64 * markWords → markAt (o .marks) j ≡ 0
@@ -80,5 +80,5 @@ module _ {form w : ℕ} {order : Order} {s : List ℕ} {digits₀ : List ℤ} {m
   -- the weight is the ones counted in the nine words
   pub marks-weigh : o .tally .weight ≡ onesOf (take markWords (o .marks))
   marks-weigh =
-      K .accepted z .weight-is ∙ ap weight (sym (recoded-string o K z bytes)) ∙ sym (marks-weight ds (omega (arith, short)))
+      K .accepted z .weight-is ∙ ap weight (sym (recoded-string form w l o K z bytes)) ∙ sym (marks-weight ds (omega (arith, short)))
       ∙ ap onesOf (sym (ap (take markWords) marks-are ∙ take-at (marksOf ds) (drop markWords marks₀) markWords (marks-length ds)))

@@ -2,21 +2,21 @@
 -- alike; and a call that ignores the order cannot keep its promise. From the calls' promises alone. Assumes nothing.
 use mathlib.Core.Path.{_≡_, refl, sym, ap, _∙_}
 use mathlib.Core.List.{List, [], _∷_, _++_, reverse, reverse-append}
-use Prim.Native.Nat.{ℕ, zero, suc, _+_, _*_, _^_, _<_}
+use Prim.Native.Nat.{ℕ, zero, suc, _+_, _*_, _^_}
 use native.Mathlib.Nat.{mul-assoc, mul-comm}
 use native.Mathlib.Omega.{arith}
 use lib.Dec.{lit<, lit≤}
 use lib.IntN.{ℤ, pos, natAbs}
 use lib.ListN.{length, getD, length-append, length-reverse, replicate}
 use lib.Pow.{pow-add}
-use Rattle.meaning.specs.Scalars.{Order, highestFirst, lowestFirst, number, bitCount}
+use Rattle.meaning.specs.Scalars.{Order, highestFirst, lowestFirst, number}
 use Rattle.meaning.specs.Digits.{Tally, allIn, inSet, worth}
 use Rattle.meaning.specs.Forms.{asked, Has}
-use Rattle.meaning.specs.Recoding.{Recode}
-use Rattle.meaning.specs.Checking.{checkRules, nonadjacentRules, Check}
+use Rattle.meaning.specs.Checking.{checkRules, nonadjacentRules}
 use Rattle.meaning.specs.Reading.{sequence}
-use Rattle.forms.specs.Wnaf.{wnafFrom, wnafDigit, wnafNext}
-use Rattle.forms.proofs.Wnaf.{wnaf-is}
+use Rattle.forms.specs.Fractional.{fractionalFrom, fractionalDigit, fractionalNext}
+use Rattle.forms.proofs.Made.{least-between, fractional-is}
+use Rattle.width.proofs.Widths.{whole-pair}
 use Rattle.scalar.proofs.Bytes.{Bytes, number-lt}
 use Rattle.promises.proofs.Recode as Recoding
 use Rattle.promises.proofs.Recode.{recode-determined}
@@ -42,9 +42,9 @@ lowest-reversed [] = refl
 lowest-reversed (b ∷ s) = ap (λ n. b + 256 * n) (lowest-reversed s) ∙ sym (ap (number highestFirst) (reverse-append (b ∷ []) s) ∙ number-snoc (reverse s) b)
 
 -- ---- the calls on the frames that two probes send of one number
-module _ {form w : ℕ} {s : List ℕ} {digits₀ : List ℤ} {marks₀ : List ℕ} where
+module _ (form w l : ℕ) {s : List ℕ} {digits₀ : List ℤ} {marks₀ : List ℕ} where
   -- what is promised of one frame is promised of the other
-  turned : (o : Recoding.Outcome) → Recoding.Keeps form w lowestFirst s digits₀ marks₀ o → Recoding.Keeps form w highestFirst (reverse s) digits₀ marks₀ o
+  turned : (o : Recoding.Outcome) → Recoding.Keeps form w l lowestFirst s digits₀ marks₀ o → Recoding.Keeps form w l highestFirst (reverse s) digits₀ marks₀ o
   turned o K =
       record {
         first = rw (length-reverse s) (K .first);
@@ -60,17 +60,17 @@ module _ {form w : ℕ} {s : List ℕ} {digits₀ : List ℤ} {marks₀ : List �
       }
 
   -- so recode leaves the same: number, digits, marks, weight and top
-  pub recode-turned : (o p : Recoding.Outcome) → Recoding.Keeps form w lowestFirst s digits₀ marks₀ o → Recoding.Keeps form w highestFirst (reverse s) digits₀ marks₀ p → o ≡ p
-  recode-turned o p K L = recode-determined form w highestFirst (reverse s) digits₀ marks₀ o p (turned o K) L
+  pub recode-turned : (o p : Recoding.Outcome) → Recoding.Keeps form w l lowestFirst s digits₀ marks₀ o → Recoding.Keeps form w l highestFirst (reverse s) digits₀ marks₀ p → o ≡ p
+  recode-turned o p K L = recode-determined form w l highestFirst (reverse s) digits₀ marks₀ o p (turned o K) L
 
 -- the checks answer the same
-pub check-turned : (w : ℕ) (s : List ℕ) (ds : List ℤ) (u v : Tally) → Checking.Keeps (checkRules w lowestFirst s ds) ds u → Checking.Keeps (checkRules w highestFirst (reverse s) ds) ds v → u ≡ v
-check-turned w s ds u v K L =
-    check-determined (checkRules w highestFirst (reverse s) ds) ds u v (record { first = rw (length-reverse s, ← lowest-reversed s) (K .first); weight-is = K .weight-is; top-is = K .top-is }) L
+pub check-turned : (w l : ℕ) (s : List ℕ) (ds : List ℤ) (u v : Tally) → Checking.Keeps (checkRules w l lowestFirst s ds) ds u → Checking.Keeps (checkRules w l highestFirst (reverse s) ds) ds v → u ≡ v
+check-turned w l s ds u v K L =
+    check-determined (checkRules w l highestFirst (reverse s) ds) ds u v (record { first = rw (length-reverse s, ← lowest-reversed s) (K .first); weight-is = K .weight-is; top-is = K .top-is }) L
 
-pub nonadjacent-turned : (w : ℕ) (s : List ℕ) (ds : List ℤ) (u v : Tally) → Checking.Keeps (nonadjacentRules w lowestFirst s ds) ds u → Checking.Keeps (nonadjacentRules w highestFirst (reverse s) ds) ds v → u ≡ v
-nonadjacent-turned w s ds u v K L =
-    check-determined (nonadjacentRules w highestFirst (reverse s) ds) ds u v (record { first = rw (length-reverse s, ← lowest-reversed s) (K .first); weight-is = K .weight-is; top-is = K .top-is }) L
+pub nonadjacent-turned : (w l : ℕ) (s : List ℕ) (ds : List ℤ) (u v : Tally) → Checking.Keeps (nonadjacentRules w l lowestFirst s ds) ds u → Checking.Keeps (nonadjacentRules w l highestFirst (reverse s) ds) ds v → u ≡ v
+nonadjacent-turned w l s ds u v K L =
+    check-determined (nonadjacentRules w l highestFirst (reverse s) ds) ds u v (record { first = rw (length-reverse s, ← lowest-reversed s) (K .first); weight-is = K .weight-is; top-is = K .top-is }) L
 
 -- the reader's sequence is the same
 pub sequence-turned : (r w : ℕ) (s : List ℕ) → sequence r w lowestFirst s ≡ sequence r w highestFirst (reverse s)
@@ -99,39 +99,39 @@ lowest-digit ds = natAbs (getD ds 0 (pos 0))
 module _ (c : Recoder) where
   -- what it does with them as wNAF at width 2
   of-bytes : Order → Recoding.Outcome
-  of-bytes o = c .call 2 2 o two-bytes are-bytes digits-lent marks-lent
+  of-bytes o = c .call 2 2 1 o two-bytes are-bytes digits-lent marks-lent
 
-  answer : (o : Order) → Answered two-bytes (wnafFrom 2 17 (number o two-bytes)) digits-lent marks-lent (of-bytes o)
+  answer : (o : Order) → Answered two-bytes (fractionalFrom 2 1 17 (number o two-bytes)) digits-lent marks-lent (of-bytes o)
   unfolding two-bytes digits-lent marks-lent of-bytes asked Has
   answer o =
       let small = number-lt o two-bytes are-bytes in
-      answered 2 2 o two-bytes (wnafFrom 2 17 (number o two-bytes)) (allowed 2 2 tt) (lit≤ tt) small (wnaf-is 2 (number o two-bytes) 16 (lit≤ tt) small) digits-lent marks-lent (lit≤ tt) (lit≤ tt)
-      (of-bytes o) (c .keeps 2 2 o two-bytes are-bytes digits-lent marks-lent)
+      answered 2 2 1 o two-bytes (fractionalFrom 2 1 17 (number o two-bytes)) (allowed 2 2 1 tt tt) (lit≤ tt) small (fractional-is 2 1 (number o two-bytes) 16 (least-between 2 (lit≤ tt)) small) digits-lent marks-lent (lit≤ tt) (lit≤ tt)
+      (of-bytes o) (c .keeps 2 2 1 o two-bytes are-bytes digits-lent marks-lent)
 
   high-digit : lowest-digit (of-bytes highestFirst .digits) ≡ 0
-  unfolding lowest-digit two-bytes digits-lent number wnafFrom wnafDigit wnafNext
+  unfolding lowest-digit two-bytes digits-lent number fractionalFrom fractionalDigit fractionalNext
   high-digit = ap lowest-digit (answer highestFirst .digits-are)
 
   low-digit : lowest-digit (of-bytes lowestFirst .digits) ≡ 1
-  unfolding lowest-digit two-bytes digits-lent number wnafFrom wnafDigit wnafNext
+  unfolding lowest-digit two-bytes digits-lent number fractionalFrom fractionalDigit fractionalNext
   low-digit = ap lowest-digit (answer lowestFirst .digits-are)
 
-  pub recode-not-orderless : ((form w : ℕ) (o p : Order) (s : List ℕ) (b : Bytes s) (digits₀ : List ℤ) (marks₀ : List ℕ) → c .call form w o s b digits₀ marks₀ ≡ c .call form w p s b digits₀ marks₀) → ⊥
+  pub recode-not-orderless : ((form w l : ℕ) (o p : Order) (s : List ℕ) (b : Bytes s) (digits₀ : List ℤ) (marks₀ : List ℕ) → c .call form w l o s b digits₀ marks₀ ≡ c .call form w l p s b digits₀ marks₀) → ⊥
   unfolding of-bytes
   recode-not-orderless r =
-      let z : _≡_ {A = ℕ} 0 1 = sym high-digit ∙ ap (λ (x : Recoding.Outcome). lowest-digit (x .digits)) (r 2 2 highestFirst lowestFirst two-bytes are-bytes digits-lent marks-lent) ∙ low-digit in
+      let z : _≡_ {A = ℕ} 0 1 = sym high-digit ∙ ap (λ (x : Recoding.Outcome). lowest-digit (x .digits)) (r 2 2 1 highestFirst lowestFirst two-bytes are-bytes digits-lent marks-lent) ∙ low-digit in
       omega arith
 
 -- the string 1 is worth them lowest first, and not highest first
-low-legal : Legal 2 lowestFirst two-bytes (pos 1 ∷ [])
+low-legal : Legal 2 1 lowestFirst two-bytes (pos 1 ∷ [])
 unfolding two-bytes allIn inSet worth number
-low-legal = record { wide = (lit≤ tt, lit≤ tt); few = lit≤ tt; short = lit≤ tt; digits = tt; worth-is = refl }
+low-legal = record { pair = whole-pair (lit≤ tt, lit≤ tt); few = lit≤ tt; short = lit≤ tt; digits = tt; worth-is = refl }
 
-high-illegal : Legal 2 highestFirst two-bytes (pos 1 ∷ []) → ⊥
+high-illegal : Legal 2 1 highestFirst two-bytes (pos 1 ∷ []) → ⊥
 unfolding two-bytes worth number
 high-illegal L = let z : _≡_ {A = ℕ} 1 256 = ap natAbs (L .worth-is) in omega arith
 
-pub check-not-orderless : (c : Checker checkRules) → ((w : ℕ) (o p : Order) (s : List ℕ) (ds : List ℤ) → c .call w o s ds ≡ c .call w p s ds) → ⊥
+pub check-not-orderless : (c : Checker checkRules) → ((w l : ℕ) (o p : Order) (s : List ℕ) (ds : List ℤ) → c .call w l o s ds ≡ c .call w l p s ds) → ⊥
 check-not-orderless c r =
-    let yes = ap (λ (v : Tally). v .refusal) (r 2 highestFirst lowestFirst two-bytes (pos 1 ∷ []) ∙ check-yes-only 2 lowestFirst two-bytes (pos 1 ∷ []) low-legal _ (c .keeps 2 lowestFirst two-bytes (pos 1 ∷ []))) in
-    high-illegal (check-yes 2 highestFirst two-bytes (pos 1 ∷ []) _ (c .keeps 2 highestFirst two-bytes (pos 1 ∷ [])) yes)
+    let yes = ap (λ (v : Tally). v .refusal) (r 2 1 highestFirst lowestFirst two-bytes (pos 1 ∷ []) ∙ check-yes-only 2 1 lowestFirst two-bytes (pos 1 ∷ []) low-legal _ (c .keeps 2 1 lowestFirst two-bytes (pos 1 ∷ []))) in
+    high-illegal (check-yes 2 1 highestFirst two-bytes (pos 1 ∷ []) _ (c .keeps 2 1 highestFirst two-bytes (pos 1 ∷ [])) yes)

@@ -6,7 +6,7 @@ use native.Mathlib.Decide.{ℕ-discrete}
 use lib.IntN.{ℤ, pos, _*ℤ_}
 use lib.ListN.{length, drop}
 use Rattle.laws.proofs.Division.{same-floor}
-use Rattle.meaning.specs.Digits.{largest, entries}
+use Rattle.meaning.specs.Digits.{entries}
 use Rattle.meaning.specs.Refusals.{granted, kept}
 use Rattle.meaning.specs.Walks.{tapeValue, doublings, additions}
 use Rattle.meaning.specs.Multiples.{costOf}
@@ -59,13 +59,13 @@ enum-same a b s t q =
     same
 
 -- ---- run
-module _ (w : ℕ) (ws : List ℕ) (m g : ℕ) (multiples₀ : List ℕ) where
+module _ (w l : ℕ) (ws : List ℕ) (m g : ℕ) (multiples₀ : List ℕ) where
   abbrev count : ℕ
-  count = entries (largest w)
+  count = entries l
 
-  pub run-plain : (a b : Running.Ran) (ms ns : List ℕ) → Run w ws m g multiples₀ a ms → Run w ws m g multiples₀ b ns → (a ≡ b) × (ms ≡ ns)
+  pub run-plain : (a b : Running.Ran) (ms ns : List ℕ) → Run w l ws m g multiples₀ a ms → Run w l ws m g multiples₀ b ns → (a ≡ b) × (ms ≡ ns)
   run-plain a b ms ns K L =
-      let (r, p) = first-only (runRules w ws m (length multiples₀)) (K .first) (L .first) in (
+      let (r, p) = first-only (runRules w l ws m (length multiples₀)) (K .first) (L .first) in (
         ran-same a b r p (same r (ℕ-discrete (a .refusal) 0))
             (K .doublings-are ∙ ap (λ t. granted t (doublings ws)) r ∙ sym (L .doublings-are))
             (K .additions-are ∙ ap (λ t. granted t (additions ws)) r ∙ sym (L .additions-are))
@@ -78,5 +78,5 @@ module _ (w : ℕ) (ws : List ℕ) (m g : ℕ) (multiples₀ : List ℕ) where
       same e (yes z) = residue-same m (tapeValue ws *ℤ pos g) (a .residue) (b .residue) (K .residue-is z) (L .residue-is (sym e ∙ z))
       same e (no n) = K .residue-none n ∙ sym (L .residue-none (λ z. n (e ∙ z)))
 
-  pub run-determined : (a b : Ran) (ms ns : List ℕ) → Promise w ws m g multiples₀ a ms → Promise w ws m g multiples₀ b ns → (a ≡ b) × (ms ≡ ns)
+  pub run-determined : (a b : Ran) (ms ns : List ℕ) → Promise w l ws m g multiples₀ a ms → Promise w l ws m g multiples₀ b ns → (a ≡ b) × (ms ≡ ns)
   run-determined a b ms ns P Q = let (q, e) = run-plain (answer a) (answer b) ms ns (P .run) (Q .run) in (enum-same a b (P .numbered) (Q .numbered) q, e)

@@ -19,19 +19,19 @@ pub record Outcome : Type 0 where
   pub words : List ℕ
 
 -- the outcome satisfies the promise
-abbrev pub Keeps : (w : ℕ) (ds : List ℤ) (words₀ : List ℕ) → Outcome → Type 0
-Keeps w ds words₀ o = Tape w ds words₀ (o .taped) (o .words)
+abbrev pub Keeps : (w l : ℕ) (ds : List ℤ) (words₀ : List ℕ) → Outcome → Type 0
+Keeps w l ds words₀ o = Tape w l ds words₀ (o .taped) (o .words)
 
 -- outcomes are equal by their fields
 made : (r p n d a : ℕ) (ws : List ℕ) → Outcome
 made r p n d a ws = record { taped = record { refusal = r; place = p; words = n; doublings = d; additions = a }; words = ws }
 
-pub tape-determined : (w : ℕ) (ds : List ℤ) (words₀ : List ℕ) (o o′ : Outcome) → Keeps w ds words₀ o → Keeps w ds words₀ o′ → o ≡ o′
+pub tape-determined : (w l : ℕ) (ds : List ℤ) (words₀ : List ℕ) (o o′ : Outcome) → Keeps w l ds words₀ o → Keeps w l ds words₀ o′ → o ≡ o′
 unfolding made
-tape-determined w ds words₀ o o′ K K′ =
+tape-determined w l ds words₀ o o′ K K′ =
     let t = o .taped in
     let t′ = o′ .taped in
-    let (r, p) = first-only (tapeRules w ds (length words₀)) (K .first) (K′ .first) in
+    let (r, p) = first-only (tapeRules w l ds (length words₀)) (K .first) (K′ .first) in
     let n = K .count-is ∙ ap (λ x. granted x (length (tapeOf ds))) r ∙ sym (K′ .count-is) in
     let d = K .doublings-are ∙ ap (λ x. granted x (top ds - 1)) r ∙ sym (K′ .doublings-are) in
     let a = K .additions-are ∙ ap (λ x. granted x (weight ds - 1)) r ∙ sym (K′ .additions-are) in

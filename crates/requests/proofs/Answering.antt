@@ -13,7 +13,8 @@ use Rattle.meaning.specs.Scalars.{Order, highestFirst, number, bitCount, mostBy
 use Rattle.meaning.specs.Digits.{mostPlaces, Tally}
 use Rattle.meaning.specs.Forms.{Form}
 use Rattle.meaning.specs.Refusals.{First}
-use Rattle.meaning.specs.Recoding.{markWords, recodeRules, Recode}
+use Rattle.meaning.specs.Recoding.{markWords}
+use Rattle.meaning.specs.Whole.{wholeRules, RecodeWhole}
 use Rattle.meaning.specs.Lines.{lineFeed}
 use Rattle.meaning.specs.Hexadecimal.{written, bytesOf}
 use Rattle.meaning.specs.Frames.{Version, version1, version2, lineOf}
@@ -51,11 +52,11 @@ module _ (v : Version) (line out₀ out : List ℕ) (r : ℕ) where
 
 -- a recoding that is lent enough for every scalar refuses what a line's rules refuse
 line-first : (line : List ℕ) → T (not (malformed line)) → (places words r p : ℕ) → mostPlaces ≤ places → markWords ≤ words
-    → First (recodeRules (formOf line) (widthOf line) (scalarOf line) places words) r p → First (lineRules line) r 0
+    → First (wholeRules (formOf line) (widthOf line) (scalarOf line) places words) r p → First (lineRules line) r 0
 line-first line frame places words r p hp hw f = inr (T-not (malformed line) frame, go f)
   where
-    go : First (recodeRules (formOf line) (widthOf line) (scalarOf line) places words) r p
-        → First (recodeRules (formOf line) (widthOf line) (scalarOf line) (bitCount (scalarOf line) + 1) markWords) r 0
+    go : First (wholeRules (formOf line) (widthOf line) (scalarOf line) places words) r p
+        → First (wholeRules (formOf line) (widthOf line) (scalarOf line) (bitCount (scalarOf line) + 1) markWords) r 0
     go (inl (e, c)) = inl (e, (c .0, refl))
     go (inr (n1, inl (e, c))) = inr (n1, inl (e, (c .0, refl)))
     go (inr (n1, inr (n2, inl (e, c)))) = inr (n1, inr (n2, inl (e, (c .0, refl))))
@@ -102,15 +103,15 @@ module _ (line bytes₀ : List ℕ) (least : 6 ≤ length line) (most : length l
 
   -- what recode leaves, given what was read
   pub worked : {digits₀ digits : List ℤ} {marks₀ marks : List ℕ} {a : Tally}
-      → Recode (getD bytes 0 0) (getD bytes 1 0) highestFirst (take (length line / 2 - 3) (drop 3 bytes)) digits₀ marks₀ a digits marks
+      → RecodeWhole (getD bytes 0 0) (getD bytes 1 0) highestFirst (take (length line / 2 - 3) (drop 3 bytes)) digits₀ marks₀ a digits marks
       → Worked line bytes₀ digits₀ marks₀ bytes digits marks a
   worked R = record { bytes-are = front-is; recoded = rw (byte-at 0 (omega arith), byte-at 1 (omega arith), scalar-is) at R }
 
 -- ---- where no rule applies
-module _ {form w : ℕ} {o : Order} {s : List ℕ} {digits₀ digits : List ℤ} {marks₀ marks : List ℕ} {a : Tally} (R : Recode form w o s digits₀ marks₀ a digits marks) (none : a .refusal ≡ 0) where
+module _ (form w : ℕ) {o : Order} {s : List ℕ} {digits₀ digits : List ℤ} {marks₀ marks : List ℕ} {a : Tally} (R : RecodeWhole form w o s digits₀ marks₀ a digits marks) (none : a .refusal ≡ 0) where
   -- the scalar is not too long, and there is room for its digits
   pub room : (length s ≤ mostBytes) × (bitCount s + 1 ≤ length digits₀)
-  room = let (_, (_, (l, (d, _)))) = clear (recodeRules form w s (length digits₀) (length marks₀)) tt (a .refusal) (a .place) (R .first) none in (not-below l, not-below d)
+  room = let (_, (_, (l, (d, _)))) = clear (wholeRules form w s (length digits₀) (length marks₀)) tt (a .refusal) (a .place) (R .first) none in (not-below l, not-below d)
 
   -- the first places of the digits are the string that has the form
   pub string-is : length digits ≡ length digits₀ → take (bitCount s + 1) digits ≡ R .accepted none .string

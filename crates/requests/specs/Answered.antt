@@ -9,7 +9,8 @@ use lib.IntN.{ℤ}
 use lib.ListN.{length, take, drop}
 use Rattle.meaning.specs.Digits.{mostPlaces, Tally}
 use Rattle.meaning.specs.Scalars.{highestFirst}
-use Rattle.meaning.specs.Recoding.{markWords, Recode}
+use Rattle.meaning.specs.Recoding.{markWords}
+use Rattle.meaning.specs.Whole.{RecodeWhole}
 use Rattle.meaning.specs.Hexadecimal.{bytesOf}
 use Rattle.meaning.specs.Frames.{Version, version1, version2}
 use Rattle.meaning.specs.Requests.{malformed, formOf, widthOf, scalarOf, Answer}
@@ -39,7 +40,7 @@ pub record Kept (bytes₀ : List ℕ) (digits₀ : List ℤ) (marks₀ bytes : L
 -- it holds the frame's bytes and then what stood past them, and what recode leaves, which answers a
 pub record Worked (line bytes₀ : List ℕ) (digits₀ : List ℤ) (marks₀ bytes : List ℕ) (digits : List ℤ) (marks : List ℕ) (a : Tally) : Type 0 where
   pub bytes-are : bytes ≡ bytesOf line ++ drop (length (bytesOf line)) bytes₀
-  pub recoded : Recode (formOf line) (widthOf line) highestFirst (scalarOf line) digits₀ marks₀ a digits marks
+  pub recoded : RecodeWhole (formOf line) (widthOf line) highestFirst (scalarOf line) digits₀ marks₀ a digits marks
 
 -- where enough is lent: the answer is the first r characters of out, what stood past them stands, and only a frame is worked on
 pub record Filled (v : Version) (line bytes₀ : List ℕ) (digits₀ : List ℤ) (marks₀ out₀ : List ℕ) (r : ℕ) (bytes : List ℕ) (digits : List ℤ) (marks out : List ℕ) : Type 0 where

@@ -1,12 +1,17 @@
 // Requests: a line of hexadecimal read as a frame that asks for a recoding, and the answer to any line written, in the version told.
+use digits::Tally;
 use frames::Version;
 use recoder::MARK_WORDS;
 use scalar::Order;
+use width::DigitSet;
 use width::Width;
 ghost use mathlib.Core.Path.{_≡_};
 ghost use mathlib.Core.Bool.{not};
 ghost use lib.Dec.{T};
+ghost use Rattle.meaning.specs.Scalars.{highestFirst};
+ghost use Rattle.meaning.specs.Whole.{RecodeWhole};
 ghost use Rattle.meaning.specs.Requests.{malformed};
+ghost use Rattle.digits.specs.Tallies.{told};
 ghost use Rattle.frames.specs.Told.{versionOf};
 ghost use Rattle.requests.specs.Answered.{Lent, Filled, Answered};
 
@@ -49,6 +54,20 @@ fn malformed(line: &[u8]) -> bool
     true
 }
 
+// A frame's scalar: frames have whole widths, and the highest byte first.
+fn recode(form: u8, width: u8, s: &[u8], digits: &mut [i8], marks: &mut [u64]) -> Tally
+    ensures { λ r. ⌜ RecodeWhole form width highestFirst (now (s .entry)) (now (digits .entry)) (now (marks .entry)) (told r) (now (digits .exit)) (now (marks .exit)) ⌝ }
+{
+    recoder::recode(
+        form,
+        DigitSet::whole(width),
+        Order::HighestFirst,
+        s,
+        digits,
+        marks,
+    )
+}
+
 // The answer to a frame: its bytes are read, recoded and written out.
 fn frame(
     version: Version,
@@ -64,14 +83,7 @@ fn frame(
 {
     hexadecimal::read(line, bytes);
     let count = line.len() / 2;
-    let tally = recoder::recode(
-        bytes[0],
-        bytes[1],
-        Order::HighestFirst,
-        &bytes[HEAD..count],
-        digits,
-        marks,
-    );
+    let tally = recode(bytes[0], bytes[1], &bytes[HEAD..count], digits, marks);
     if tally.refusal != 0 {
         return answers::refused(tally.refusal, out);
     }

@@ -16,6 +16,7 @@ ghost use Rattle.run.specs.Walks.{entryIn, tableOf, Held, Steady};
 use tape::Move;
 use tape::Sign;
 use tape::Step;
+use width::DigitSet;
 use width::Known;
 use width::Width;
 
@@ -206,11 +207,14 @@ pub fn refused(number: u8, place: u16) -> Ran
 }
 
 // The run of a tape: all its words are judged before a multiple is stored.
-pub fn run(width: u8, tape: &[u16], modulus: u32, base: u32, multiples: &mut [u32]) -> Ran
-    ensures { λ r. ⌜ Promise width (now (tape .entry)) modulus base (now (multiples .entry)) r (now (multiples .exit)) ⌝ }
+pub fn run(set: DigitSet, tape: &[u16], modulus: u32, base: u32, multiples: &mut [u32]) -> Ran
+    ensures { λ r. ⌜ Promise (set .width) (set .largest) (now (tape .entry)) modulus base (now (multiples .entry)) r (now (multiples .exit)) ⌝ }
 {
-    let Known::As(known) = Width::known(width) else {
+    let Known::As(whole) = Width::known(set.width) else {
         return refused(2, 0);
+    };
+    let Known::As(known) = whole.reaching(set.largest) else {
+        return refused(22, 0);
     };
     if modulus == 0 {
         return refused(12, 0);

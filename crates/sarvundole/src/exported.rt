@@ -1,4 +1,4 @@
-// The calls for C. A slice is a pointer and a count there, an answer a struct by value, and an order of bytes a byte: 0 highest first, anything else lowest first. Each promises what the call that it makes promises.
+// The calls for C. A slice is a pointer and a count there, an answer and a digit set a struct by value, and an order of bytes a byte: 0 highest first, anything else lowest first. Each promises what the call that it makes promises.
 ghost use mathlib.Core.Path.{_≡_};
 ghost use Rattle.meaning.specs.Scalars.{orderOf};
 ghost use Rattle.meaning.specs.Recoding.{Recode, RecodeBelow};
@@ -28,6 +28,7 @@ use run::Cost;
 use run::Outcome;
 use search::Searched;
 use tape::Taped;
+use width::DigitSet;
 
 // The run's outcome in plain fields: the refusal and its place, or the residue.
 #[repr(C)]
@@ -71,32 +72,32 @@ pub struct Stepped {
 #[no_mangle]
 pub extern "C" fn sarvundole_recode(
     form: u8,
-    width: u8,
+    set: DigitSet,
     order: u8,
     scalar: &[u8],
     digits: &mut [i8],
     marks: &mut [u64],
 ) -> Tally
-    ensures { λ r. ⌜ Recode form width (orderOf order) (now (scalar .entry)) (now (digits .entry)) (now (marks .entry)) (told r) (now (digits .exit)) (now (marks .exit)) ⌝ }
+    ensures { λ r. ⌜ Recode form (set .width) (set .largest) (orderOf order) (now (scalar .entry)) (now (digits .entry)) (now (marks .entry)) (told r) (now (digits .exit)) (now (marks .exit)) ⌝ }
 {
-    recoder::recode(form, width, scalar::order_of(order), scalar, digits, marks)
+    recoder::recode(form, set, scalar::order_of(order), scalar, digits, marks)
 }
 
 #[no_mangle]
 pub extern "C" fn sarvundole_recode_below(
     form: u8,
-    width: u8,
+    set: DigitSet,
     order: u8,
     scalar: &[u8],
     group: &[u8],
     digits: &mut [i8],
     marks: &mut [u64],
 ) -> Tally
-    ensures { λ r. ⌜ RecodeBelow form width (orderOf order) (now (scalar .entry)) (now (group .entry)) (now (digits .entry)) (now (marks .entry)) (told r) (now (digits .exit)) (now (marks .exit)) ⌝ }
+    ensures { λ r. ⌜ RecodeBelow form (set .width) (set .largest) (orderOf order) (now (scalar .entry)) (now (group .entry)) (now (digits .entry)) (now (marks .entry)) (told r) (now (digits .exit)) (now (marks .exit)) ⌝ }
 {
     recoder::recode_below(
         form,
-        width,
+        set,
         scalar::order_of(order),
         scalar,
         group,
@@ -106,29 +107,29 @@ pub extern "C" fn sarvundole_recode_below(
 }
 
 #[no_mangle]
-pub extern "C" fn sarvundole_check(width: u8, order: u8, scalar: &[u8], digits: &[i8]) -> Tally
-    ensures { λ r. ⌜ Check (checkRules width (orderOf order) (now (scalar .entry)) (now (digits .entry))) (now (digits .entry)) (told r) ⌝ }
+pub extern "C" fn sarvundole_check(set: DigitSet, order: u8, scalar: &[u8], digits: &[i8]) -> Tally
+    ensures { λ r. ⌜ Check (checkRules (set .width) (set .largest) (orderOf order) (now (scalar .entry)) (now (digits .entry))) (now (digits .entry)) (told r) ⌝ }
 {
-    judge::check(width, scalar::order_of(order), scalar, digits)
+    judge::check(set, scalar::order_of(order), scalar, digits)
 }
 
 #[no_mangle]
 pub extern "C" fn sarvundole_check_nonadjacent(
-    width: u8,
+    set: DigitSet,
     order: u8,
     scalar: &[u8],
     digits: &[i8],
 ) -> Tally
-    ensures { λ r. ⌜ Check (nonadjacentRules width (orderOf order) (now (scalar .entry)) (now (digits .entry))) (now (digits .entry)) (told r) ⌝ }
+    ensures { λ r. ⌜ Check (nonadjacentRules (set .width) (set .largest) (orderOf order) (now (scalar .entry)) (now (digits .entry))) (now (digits .entry)) (told r) ⌝ }
 {
-    judge::check_nonadjacent(width, scalar::order_of(order), scalar, digits)
+    judge::check_nonadjacent(set, scalar::order_of(order), scalar, digits)
 }
 
 #[no_mangle]
-pub extern "C" fn sarvundole_tape(width: u8, digits: &[i8], words: &mut [u16]) -> Taped
-    ensures { λ r. ⌜ Tape width (now (digits .entry)) (now (words .entry)) (taped r) (now (words .exit)) ⌝ }
+pub extern "C" fn sarvundole_tape(set: DigitSet, digits: &[i8], words: &mut [u16]) -> Taped
+    ensures { λ r. ⌜ Tape (set .width) (set .largest) (now (digits .entry)) (now (words .entry)) (taped r) (now (words .exit)) ⌝ }
 {
-    tape::tape(width, digits, words)
+    tape::tape(set, digits, words)
 }
 
 // What a run answers, in plain fields.
@@ -159,15 +160,15 @@ pub fn reported(made: run::Ran) -> Ran
 
 #[no_mangle]
 pub extern "C" fn sarvundole_run(
-    width: u8,
+    set: DigitSet,
     tape: &[u16],
     modulus: u32,
     base: u32,
     multiples: &mut [u32],
 ) -> Ran
-    ensures { λ r. ⌜ Run width (now (tape .entry)) modulus base (now (multiples .entry)) (ran r) (now (multiples .exit)) ⌝ }
+    ensures { λ r. ⌜ Run (set .width) (set .largest) (now (tape .entry)) modulus base (now (multiples .entry)) (ran r) (now (multiples .exit)) ⌝ }
 {
-    reported(run::run(width, tape, modulus, base, multiples))
+    reported(run::run(set, tape, modulus, base, multiples))
 }
 
 // What a call of the reader gives, in plain numbers.

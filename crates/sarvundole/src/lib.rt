@@ -44,5 +44,6 @@ pub use tape::Step;
 pub use tape::Taped;
 pub use tape::decode;
 pub use tape::tape;
+pub use width::DigitSet;
 pub use width::Known;
 pub use width::Width;

@@ -4,7 +4,7 @@ ghost use mathlib.Core.Path.{_≡_};
 ghost use Prim.Native.Nat.{_+_, _≤_, min};
 ghost use lib.IntN.{pos};
 ghost use Rattle.meaning.specs.Searching.{searchPlaces, Search};
-ghost use Rattle.width.specs.Widths.{Lawful};
+ghost use Rattle.width.specs.Widths.{Whole};
 ghost use Rattle.search.specs.Answers.{searched};
 ghost use Rattle.search.specs.Least.{mostNumber, leftOver, Least};
 use width::Known;
@@ -55,7 +55,7 @@ fn left_over(size: usize, i: usize) -> usize
 // The least weight of a string worth `size`. What is left over a digit may be negative: its size is searched, since a string with every digit negated is worth
 // the negative and weighs the same.
 fn least(width: Width, places: u8, size: usize) -> u8
-    requires { ⌜ Lawful width ⌝ }
+    requires { ⌜ Whole width ⌝ }
     requires { ⌜ (places ≤ searchPlaces) × (size ≤ mostNumber) ⌝ }
     ensures { λ r. ⌜ Least (width .bits) places (pos size) r ⌝ }
 {

@@ -14,6 +14,7 @@ ghost use Rattle.tape.specs.Steps.{side, told, Moves};
 ghost use Rattle.tape.specs.Places.{Twice, Lowered};
 ghost use Rattle.tape.specs.Answers.{taped};
 use digits::Found;
+use width::DigitSet;
 use width::Known;
 use width::Width;
 
@@ -209,11 +210,14 @@ fn refused(number: u8, place: u16) -> Taped
 }
 
 // The tape of a string: nothing is written before the string and the room for its words have been judged.
-pub fn tape(width: u8, digits: &[i8], words: &mut [u16]) -> Taped
-    ensures { λ r. ⌜ Tape width (now (digits .entry)) (now (words .entry)) (taped r) (now (words .exit)) ⌝ }
+pub fn tape(set: DigitSet, digits: &[i8], words: &mut [u16]) -> Taped
+    ensures { λ r. ⌜ Tape (set .width) (set .largest) (now (digits .entry)) (now (words .entry)) (taped r) (now (words .exit)) ⌝ }
 {
-    let Known::As(known) = Width::known(width) else {
+    let Known::As(whole) = Width::known(set.width) else {
         return refused(2, 0);
+    };
+    let Known::As(known) = whole.reaching(set.largest) else {
+        return refused(22, 0);
     };
     if Width::MOST_PLACES < digits.len() {
         return refused(7, 0);

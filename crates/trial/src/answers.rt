@@ -19,7 +19,8 @@ ghost use Rattle.trial.specs.Room.{mostAnswer, Answered};
 // What a line that is no frame is answered.
 const NO_FRAME: u64 = 0xFF;
 
-// The answer of the call that a frame names, or nothing where it names none. With 80 added, the frame's scalars are lowest byte first.
+// The answer of the call that a frame names, or nothing where it names none. With 80 added, the frame's scalars are lowest byte first; with 40
+// added, the largest digit of its set follows the width.
 fn call(frame: &[u8], out: &mut [u8]) -> usize
     requires { ⌜ mostAnswer ≤ length (now out) ⌝ }
     ensures { λ r. ⌜ Answered r ⌝ }
@@ -28,24 +29,34 @@ fn call(frame: &[u8], out: &mut [u8]) -> usize
         return 0;
     }
     match frame[0] {
-        0x01 => recoding::answer(Order::HighestFirst, frame, out),
-        0x02 => checking::answer(false, Order::HighestFirst, frame, out),
-        0x03 => checking::answer(true, Order::HighestFirst, frame, out),
-        0x04 => taping::answer(frame, out),
-        0x05 => running::answer(frame, out),
+        0x01 => recoding::answer(false, Order::HighestFirst, frame, out),
+        0x02 => checking::answer(false, false, Order::HighestFirst, frame, out),
+        0x03 => checking::answer(true, false, Order::HighestFirst, frame, out),
+        0x04 => taping::answer(false, frame, out),
+        0x05 => running::answer(false, frame, out),
         0x06 => reading::answer(Order::HighestFirst, frame, out),
         0x07 => searching::answer(frame, out),
         0x09 => joining::answer(Order::HighestFirst, frame, out),
         0x0A => jointly::answer(frame, out),
-        0x0B => bounding::answer(Order::HighestFirst, frame, out),
+        0x0B => bounding::answer(false, Order::HighestFirst, frame, out),
         0x0E => framing::answer(frame, out),
         0x0F => parsing::answer(frame, out),
-        0x81 => recoding::answer(Order::LowestFirst, frame, out),
-        0x82 => checking::answer(false, Order::LowestFirst, frame, out),
-        0x83 => checking::answer(true, Order::LowestFirst, frame, out),
+        0x41 => recoding::answer(true, Order::HighestFirst, frame, out),
+        0x42 => checking::answer(false, true, Order::HighestFirst, frame, out),
+        0x43 => checking::answer(true, true, Order::HighestFirst, frame, out),
+        0x44 => taping::answer(true, frame, out),
+        0x45 => running::answer(true, frame, out),
+        0x4B => bounding::answer(true, Order::HighestFirst, frame, out),
+        0x81 => recoding::answer(false, Order::LowestFirst, frame, out),
+        0x82 => checking::answer(false, false, Order::LowestFirst, frame, out),
+        0x83 => checking::answer(true, false, Order::LowestFirst, frame, out),
         0x86 => reading::answer(Order::LowestFirst, frame, out),
         0x89 => joining::answer(Order::LowestFirst, frame, out),
-        0x8B => bounding::answer(Order::LowestFirst, frame, out),
+        0x8B => bounding::answer(false, Order::LowestFirst, frame, out),
+        0xC1 => recoding::answer(true, Order::LowestFirst, frame, out),
+        0xC2 => checking::answer(false, true, Order::LowestFirst, frame, out),
+        0xC3 => checking::answer(true, true, Order::LowestFirst, frame, out),
+        0xCB => bounding::answer(true, Order::LowestFirst, frame, out),
         _ => 0,
     }
 }

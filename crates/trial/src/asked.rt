@@ -1,5 +1,7 @@
 // What a frame may ask for, and the numbers in its bytes, the high byte first.
+use width::DigitSet;
 ghost use mathlib.Core.Path.{_≡_};
+ghost use mathlib.Core.Bool.{true};
 ghost use Prim.Native.Nat.{_+_, _*_, _≤_, _<_};
 ghost use lib.ListN.{length};
 
@@ -37,6 +39,27 @@ pub fn four(frame: &[u8], at: usize) -> u32
     requires { ⌜ at + 4 ≤ length (now frame) ⌝ }
 {
     65536 * (two(frame, at) as u32) + two(frame, at + 2) as u32
+}
+
+// Where a set ends that starts at place `at`: a width alone, or a width and a largest digit.
+pub fn after(between: bool, at: usize) -> usize
+    requires { ⌜ at ≤ 2 ⌝ }
+    ensures { λ r. ⌜ (at < r) × (r ≤ at + 2) × (between ≡ true → r ≡ at + 2) ⌝ }
+{
+    if between { at + 2 } else { at + 1 }
+}
+
+// The set that stands there: without a largest digit it is the whole width's.
+pub fn set(between: bool, frame: &[u8], at: usize) -> DigitSet
+    requires { ⌜ (at ≤ 2) × (at < length (now frame)) × (between ≡ true → at + 2 ≤ length (now frame)) ⌝ }
+{
+    if between {
+        return DigitSet {
+            width: frame[at],
+            largest: frame[at + 1],
+        };
+    }
+    DigitSet::whole(frame[at])
 }
 
 // Bytes as digits, in two's complement.

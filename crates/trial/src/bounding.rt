@@ -1,20 +1,21 @@
-// Call 0B: form 1, width 1, places lent 2, mark words lent 1, the group order's length 1, the group order, scalar. It answers as call 01.
+// Call 0B: form 1, a set, places lent 2, mark words lent 1, the group order's length 1, the group order, scalar. It answers as call 01.
 use crate::asked;
 use crate::lent;
 use crate::recoding;
 use scalar::Order;
+use width::DigitSet;
 ghost use mathlib.Core.Path.{_≡_};
 ghost use Prim.Native.Nat.{_+_, _*_, _≤_};
 ghost use lib.ListN.{length};
 ghost use Rattle.trial.specs.Room.{mostAnswer, Answered};
 
-// The bytes before the group's order, with the call's own.
-const HEAD: usize = 7;
+// The bytes between the set and the group's order.
+const HEAD: usize = 4;
 
 // The call, and its answer.
 fn made(
     form: u8,
-    width: u8,
+    set: DigitSet,
     order: Order,
     scalar: &[u8],
     group: &[u8],
@@ -25,21 +26,21 @@ fn made(
     requires { ⌜ 14 + 2 * length (now digits) + 16 * length (now marks) ≤ length (now out) ⌝ }
     ensures { λ r. ⌜ r ≡ 14 + 2 * length (now (digits .entry)) + 16 * length (now (marks .entry)) ⌝ }
 {
-    let tally = recoder::recode_below(form, width, order, scalar, group, digits, marks);
+    let tally = recoder::recode_below(form, set, order, scalar, group, digits, marks);
     recoding::put(tally, digits, marks, out)
 }
 
-// The answer to a frame, and where it ends: nothing where the bytes are no such frame.
-pub fn answer(order: Order, frame: &[u8], out: &mut [u8]) -> usize
+// The answer to what follows the set, and where it ends: nothing where the bytes are no such frame.
+fn asked_for(form: u8, set: DigitSet, order: Order, rest: &[u8], out: &mut [u8]) -> usize
     requires { ⌜ mostAnswer ≤ length (now out) ⌝ }
     ensures { λ r. ⌜ Answered r ⌝ }
 {
-    if frame.len() < HEAD {
+    if rest.len() < HEAD {
         return 0;
     }
-    let places = asked::two(frame, 3) as usize;
-    let words = frame[5] as usize;
-    let bytes = frame[6] as usize;
+    let places = asked::two(rest, 0) as usize;
+    let words = rest[2] as usize;
+    let bytes = rest[3] as usize;
     if asked::PLACES < places {
         return 0;
     }
@@ -50,22 +51,40 @@ pub fn answer(order: Order, frame: &[u8], out: &mut [u8]) -> usize
         return 0;
     }
     let end = HEAD + bytes;
-    if frame.len() < end {
+    if rest.len() < end {
         return 0;
     }
-    if asked::BYTES < frame.len() - end {
+    if asked::BYTES < rest.len() - end {
         return 0;
     }
     let mut digits = lent::digits();
     let mut marks = lent::marks();
     made(
-        frame[1],
-        frame[2],
+        form,
+        set,
         order,
-        &frame[end..],
-        &frame[HEAD..end],
+        &rest[end..],
+        &rest[HEAD..end],
         &mut digits[..places],
         &mut marks[..words],
+        out,
+    )
+}
+
+// The answer to a frame: its set has a largest digit of its own or not.
+pub fn answer(between: bool, order: Order, frame: &[u8], out: &mut [u8]) -> usize
+    requires { ⌜ mostAnswer ≤ length (now out) ⌝ }
+    ensures { λ r. ⌜ Answered r ⌝ }
+{
+    let end = asked::after(between, 2);
+    if frame.len() < end {
+        return 0;
+    }
+    asked_for(
+        frame[1],
+        asked::set(between, frame, 2),
+        order,
+        &frame[end..],
         out,
     )
 }

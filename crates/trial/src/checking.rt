@@ -1,20 +1,21 @@
-// Calls 02 and 03: width 1, scalar length 1, scalar, digits. They answer refusal 1, place 2, weight 2, top 2.
+// Calls 02 and 03: a set, scalar length 1, scalar, digits. They answer refusal 1, place 2, weight 2, top 2.
 use crate::asked;
 use crate::lent;
 use crate::print;
 use scalar::Order;
+use width::DigitSet;
 ghost use mathlib.Core.Path.{_≡_};
 ghost use Prim.Native.Nat.{_≤_};
 ghost use lib.ListN.{length};
 ghost use Rattle.trial.specs.Room.{mostAnswer, Answered};
 
-// The bytes before the scalar, with the call's own.
-const HEAD: usize = 3;
+// The bytes between the set and the scalar.
+const HEAD: usize = 1;
 
 // The call, and its answer. The digits that are given are put into memory first.
 fn made(
     nonadjacent: bool,
-    width: u8,
+    set: DigitSet,
     order: Order,
     scalar: &[u8],
     given: &[u8],
@@ -27,9 +28,9 @@ fn made(
 {
     asked::digits(given, digits);
     let verdict = if nonadjacent {
-        judge::check_nonadjacent(width, order, scalar, digits)
+        judge::check_nonadjacent(set, order, scalar, digits)
     } else {
-        judge::check(width, order, scalar, digits)
+        judge::check(set, order, scalar, digits)
     };
     print::fields(
         verdict.refusal,
@@ -40,34 +41,52 @@ fn made(
     )
 }
 
-// The answer to a frame, and where it ends: nothing where the bytes are no such frame.
-pub fn answer(nonadjacent: bool, order: Order, frame: &[u8], out: &mut [u8]) -> usize
+// The answer to what follows the set, and where it ends: nothing where the bytes are no such frame.
+fn asked_for(nonadjacent: bool, set: DigitSet, order: Order, rest: &[u8], out: &mut [u8]) -> usize
     requires { ⌜ mostAnswer ≤ length (now out) ⌝ }
     ensures { λ r. ⌜ Answered r ⌝ }
 {
-    if frame.len() < HEAD {
+    if rest.len() < HEAD {
         return 0;
     }
-    let bytes = frame[2] as usize;
+    let bytes = rest[0] as usize;
     if asked::BYTES < bytes {
         return 0;
     }
     let end = HEAD + bytes;
-    if frame.len() < end {
+    if rest.len() < end {
         return 0;
     }
-    let places = frame.len() - end;
+    let places = rest.len() - end;
     if asked::PLACES < places {
         return 0;
     }
     let mut digits = lent::digits();
     made(
         nonadjacent,
-        frame[1],
+        set,
         order,
-        &frame[HEAD..end],
-        &frame[end..],
+        &rest[HEAD..end],
+        &rest[end..],
         &mut digits[..places],
+        out,
+    )
+}
+
+// The answer to a frame: its set has a largest digit of its own or not.
+pub fn answer(nonadjacent: bool, between: bool, order: Order, frame: &[u8], out: &mut [u8]) -> usize
+    requires { ⌜ mostAnswer ≤ length (now out) ⌝ }
+    ensures { λ r. ⌜ Answered r ⌝ }
+{
+    let end = asked::after(between, 1);
+    if frame.len() < end {
+        return 0;
+    }
+    asked_for(
+        nonadjacent,
+        asked::set(between, frame, 1),
+        order,
+        &frame[end..],
         out,
     )
 }

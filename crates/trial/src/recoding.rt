@@ -1,16 +1,17 @@
-// Call 01: form 1, width 1, places lent 2, mark words lent 1, scalar. It answers refusal 1, place 2, weight 2, top 2, digits, marks.
+// Call 01: form 1, a set, places lent 2, mark words lent 1, scalar. It answers refusal 1, place 2, weight 2, top 2, digits, marks.
 use crate::asked;
 use crate::lent;
 use crate::print;
 use digits::Tally;
 use scalar::Order;
+use width::DigitSet;
 ghost use mathlib.Core.Path.{_≡_};
 ghost use Prim.Native.Nat.{_+_, _*_, _≤_};
 ghost use lib.ListN.{length};
 ghost use Rattle.trial.specs.Room.{mostAnswer, Answered};
 
-// The bytes before the scalar, with the call's own.
-const HEAD: usize = 6;
+// The bytes between the set and the scalar.
+const HEAD: usize = 3;
 
 pub fn put_digits(digits: &[i8], at: usize, out: &mut [u8]) -> usize
     requires { ⌜ at + 2 * length (now digits) ≤ length (now out) ⌝ }
@@ -51,7 +52,7 @@ pub fn put(tally: Tally, digits: &[i8], marks: &[u64], out: &mut [u8]) -> usize
 // The call, and its answer.
 fn made(
     form: u8,
-    width: u8,
+    set: DigitSet,
     order: Order,
     scalar: &[u8],
     digits: &mut [i8],
@@ -61,38 +62,56 @@ fn made(
     requires { ⌜ 14 + 2 * length (now digits) + 16 * length (now marks) ≤ length (now out) ⌝ }
     ensures { λ r. ⌜ r ≡ 14 + 2 * length (now (digits .entry)) + 16 * length (now (marks .entry)) ⌝ }
 {
-    let tally = recoder::recode(form, width, order, scalar, digits, marks);
+    let tally = recoder::recode(form, set, order, scalar, digits, marks);
     put(tally, digits, marks, out)
 }
 
-// The answer to a frame, and where it ends: nothing where the bytes are no such frame.
-pub fn answer(order: Order, frame: &[u8], out: &mut [u8]) -> usize
+// The answer to what follows the set, and where it ends: nothing where the bytes are no such frame.
+fn asked_for(form: u8, set: DigitSet, order: Order, rest: &[u8], out: &mut [u8]) -> usize
     requires { ⌜ mostAnswer ≤ length (now out) ⌝ }
     ensures { λ r. ⌜ Answered r ⌝ }
 {
-    if frame.len() < HEAD {
+    if rest.len() < HEAD {
         return 0;
     }
-    let places = asked::two(frame, 3) as usize;
-    let words = frame[5] as usize;
+    let places = asked::two(rest, 0) as usize;
+    let words = rest[2] as usize;
     if asked::PLACES < places {
         return 0;
     }
     if asked::MARK_WORDS < words {
         return 0;
     }
-    if asked::BYTES < frame.len() - HEAD {
+    if asked::BYTES < rest.len() - HEAD {
         return 0;
     }
     let mut digits = lent::digits();
     let mut marks = lent::marks();
     made(
-        frame[1],
-        frame[2],
+        form,
+        set,
         order,
-        &frame[HEAD..],
+        &rest[HEAD..],
         &mut digits[..places],
         &mut marks[..words],
+        out,
+    )
+}
+
+// The answer to a frame: its set has a largest digit of its own or not.
+pub fn answer(between: bool, order: Order, frame: &[u8], out: &mut [u8]) -> usize
+    requires { ⌜ mostAnswer ≤ length (now out) ⌝ }
+    ensures { λ r. ⌜ Answered r ⌝ }
+{
+    let end = asked::after(between, 2);
+    if frame.len() < end {
+        return 0;
+    }
+    asked_for(
+        frame[1],
+        asked::set(between, frame, 2),
+        order,
+        &frame[end..],
         out,
     )
 }

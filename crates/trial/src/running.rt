@@ -1,17 +1,18 @@
-// Call 05: width 1, multiples lent 2, modulus 4, base 4, tape words. It answers refusal 1, place 2, residue 4, doublings 2, additions 2, cost additions 2, cost
+// Call 05: a set, multiples lent 2, modulus 4, base 4, tape words. It answers refusal 1, place 2, residue 4, doublings 2, additions 2, cost additions 2, cost
 // doublings 2, the multiples lent.
 use crate::asked;
 use crate::lent;
 use crate::print;
 use run::Outcome;
 use run::Ran;
+use width::DigitSet;
 ghost use mathlib.Core.Path.{_≡_};
 ghost use Prim.Native.Nat.{_+_, _*_, _≤_};
 ghost use lib.ListN.{length};
 ghost use Rattle.trial.specs.Room.{mostAnswer, Answered};
 
-// The bytes before the words, with the call's own.
-const HEAD: usize = 12;
+// The bytes between the set and the words.
+const HEAD: usize = 10;
 
 // The first fields, at the front.
 fn put_fields(refusal: u8, place: u16, residue: u32, out: &mut [u8]) -> usize
@@ -63,7 +64,7 @@ pub fn put_multiples(multiples: &[u32], at: usize, out: &mut [u8]) -> usize
 
 // The call, and its answer. The words that are given are put into memory first.
 fn made(
-    width: u8,
+    set: DigitSet,
     given: &[u8],
     tape: &mut [u16],
     modulus: u32,
@@ -76,24 +77,24 @@ fn made(
     ensures { λ r. ⌜ r ≡ 30 + 8 * length (now (multiples .entry)) ⌝ }
 {
     asked::words(given, tape);
-    let ran = run::run(width, tape, modulus, base, multiples);
+    let ran = run::run(set, tape, modulus, base, multiples);
     let at = put_ran(ran, out);
     put_multiples(multiples, at, out)
 }
 
-// The answer to a frame, and where it ends: nothing where the bytes are no such frame.
-pub fn answer(frame: &[u8], out: &mut [u8]) -> usize
+// The answer to what follows the set, and where it ends: nothing where the bytes are no such frame.
+fn asked_for(set: DigitSet, rest: &[u8], out: &mut [u8]) -> usize
     requires { ⌜ mostAnswer ≤ length (now out) ⌝ }
     ensures { λ r. ⌜ Answered r ⌝ }
 {
-    if frame.len() < HEAD {
+    if rest.len() < HEAD {
         return 0;
     }
-    let count = asked::two(frame, 2) as usize;
+    let count = asked::two(rest, 0) as usize;
     if asked::MULTIPLES < count {
         return 0;
     }
-    let bytes = frame.len() - HEAD;
+    let bytes = rest.len() - HEAD;
     if bytes % 2 == 1 {
         return 0;
     }
@@ -104,12 +105,24 @@ pub fn answer(frame: &[u8], out: &mut [u8]) -> usize
     let mut words = lent::words();
     let mut multiples = lent::multiples();
     made(
-        frame[1],
-        &frame[HEAD..],
+        set,
+        &rest[HEAD..],
         &mut words[..given],
-        asked::four(frame, 4),
-        asked::four(frame, 8),
+        asked::four(rest, 2),
+        asked::four(rest, 6),
         &mut multiples[..count],
         out,
     )
+}
+
+// The answer to a frame: its set has a largest digit of its own or not.
+pub fn answer(between: bool, frame: &[u8], out: &mut [u8]) -> usize
+    requires { ⌜ mostAnswer ≤ length (now out) ⌝ }
+    ensures { λ r. ⌜ Answered r ⌝ }
+{
+    let end = asked::after(between, 1);
+    if frame.len() < end {
+        return 0;
+    }
+    asked_for(asked::set(between, frame, 1), &frame[end..], out)
 }

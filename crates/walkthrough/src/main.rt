@@ -2,6 +2,7 @@
 ghost use Prim.Native.Nat.{_≤_};
 ghost use lib.ListN.{length};
 use libc::STDOUT_FILENO;
+use sarvundole::DigitSet;
 use sarvundole::Move;
 use sarvundole::Order;
 use sarvundole::Outcome;
@@ -95,7 +96,7 @@ fn first_words(count: usize, words: &[u16]) -> bool {
 fn recoded(scalar: &[u8], digits: &mut [i8], marks: &mut [u64]) -> bool {
     let made = sarvundole::recode(
         sarvundole::WNAF,
-        WIDTH,
+        DigitSet::whole(WIDTH),
         Order::HighestFirst,
         scalar,
         digits,
@@ -115,7 +116,12 @@ fn recoded(scalar: &[u8], digits: &mut [i8], marks: &mut [u64]) -> bool {
 }
 
 fn checked(scalar: &[u8], digits: &[i8]) -> bool {
-    let made = sarvundole::check_nonadjacent(WIDTH, Order::HighestFirst, scalar, digits);
+    let made = sarvundole::check_nonadjacent(
+        DigitSet::whole(WIDTH),
+        Order::HighestFirst,
+        scalar,
+        digits,
+    );
     if made.refusal != 0 {
         refused(made.refusal, made.place);
         return false;
@@ -127,7 +133,7 @@ fn checked(scalar: &[u8], digits: &[i8]) -> bool {
 
 // The count of words, or 0.
 fn taped(digits: &[i8], words: &mut [u16]) -> usize {
-    let made = sarvundole::tape(WIDTH, digits, words);
+    let made = sarvundole::tape(DigitSet::whole(WIDTH), digits, words);
     if made.refusal != 0 {
         refused(made.refusal, made.place);
         return 0;
@@ -143,7 +149,13 @@ fn taped(digits: &[i8], words: &mut [u16]) -> usize {
 fn run(count: usize, words: &[u16], multiples: &mut [u32]) -> Ran
     requires { ⌜ count ≤ length (now words) ⌝ }
 {
-    sarvundole::run(WIDTH, &words[..count], MODULUS, BASE, multiples)
+    sarvundole::run(
+        DigitSet::whole(WIDTH),
+        &words[..count],
+        MODULUS,
+        BASE,
+        multiples,
+    )
 }
 
 fn counts(doublings: u16, additions: u16) -> bool {

@@ -5,7 +5,9 @@ use mathlib.Core.Bool.{cond, _&&_}
 use Prim.Native.Nat.{ℕ, _≤_}
 use lib.Dec.{leb}
 use Rattle.meaning.specs.Digits.{leastWidth, mostWidth, largest}
+use Rattle.meaning.specs.Sets.{Pair}
 use Rattle.width.specs.declared.Width.{Width}
+use Rattle.width.specs.declared.DigitSet.{DigitSet}
 use Rattle.width.specs.declared.Known.{Known}
 use Rattle.width.specs.declared.Known.the-variants.{As, Nothing}
 
@@ -13,13 +15,18 @@ use Rattle.width.specs.declared.Known.the-variants.{As, Nothing}
 abbrev pub Wide : ℕ → Type 0
 Wide w = (leastWidth ≤ w) × (w ≤ mostWidth)
 
--- m is the largest digit of a set at width w: that of D_w
-abbrev pub Largest : (w m : ℕ) → Type 0
-Largest w m = m ≡ largest w
+-- a whole width: its largest digit is that of D_w
+abbrev pub Whole : Width → Type 0
+Whole w = Wide (w .bits) × (w .largest ≡ largest (w .bits))
 
 -- a width with its largest digit
 abbrev pub Lawful : Width → Type 0
-Lawful w = Wide (w .bits) × Largest (w .bits) (w .largest)
+Lawful w = Pair (w .bits) (w .largest)
+
+-- the set of a whole width, where there is one
+pub record Entire (w : ℕ) (s : DigitSet) : Type 0 where
+  pub width-is : s .width ≡ w
+  pub largest-is : Wide w → s .largest ≡ largest w
 
 -- the limits of a type are these
 pub record Limits (least most from to : ℕ) : Type 0 where
@@ -29,3 +36,8 @@ pub record Limits (least most from to : ℕ) : Type 0 where
 -- the width that a byte is, or none
 unfoldable pub knownOf : ℕ → Known
 knownOf byte = cond (leb leastWidth byte && leb byte mostWidth) (As (record { bits = byte; largest = largest byte })) Nothing
+
+-- the width that a width and a largest digit make, or none
+unfoldable pub Reaches : (w m : ℕ) → Known → Type 0
+Reaches w m (As x) = (x .bits ≡ w) × (x .largest ≡ m) × Pair w m
+Reaches w m Nothing = Pair w m → ⊥

@@ -1,16 +1,38 @@
-// The width of a recoding, with everything that depends on it alone: the limits of widths, strings and tapes, the digit set, and where its windows start
-// in the table. Every call gets its width from a raw byte by `known` and by nothing else.
+// The width of a recoding with its largest digit, and everything that depends on them alone: the limits of widths, strings and tapes, the digit set, and where its
+// windows start in the table. Every call gets its width from a raw byte by `known`, with another largest digit by `reaching`, and by nothing else.
 ghost use mathlib.Core.Path.{_≡_};
 ghost use Prim.Native.Nat.{_+_, _*_, _≤_, max};
 ghost use Rattle.meaning.specs.Digits.{leastWidth, mostWidth, mostPlaces, inSet, entries};
 ghost use Rattle.meaning.specs.Words.{mostWords};
 ghost use Rattle.meaning.specs.Windows.{tableStart};
-ghost use Rattle.width.specs.Widths.{Wide, Limits, knownOf};
+ghost use Rattle.width.specs.Widths.{Wide, Whole, Limits, knownOf, Reaches, Entire};
 
 // How many bits a digit has, its sign included, and the largest digit. The spacing of digits and the windows go by the bits, the digit set and the entries by the largest digit.
 pub struct Width {
     bits: u8,
     largest: u8,
+}
+
+// A set as a call is asked for one: a width and a largest digit, which may be none.
+#[repr(C)]
+pub struct DigitSet {
+    pub width: u8,
+    pub largest: u8,
+}
+
+impl DigitSet {
+    // The set of a whole width.
+    pub fn whole(width: u8) -> DigitSet
+        ensures { λ r. ⌜ Entire width r ⌝ }
+    {
+        let Known::As(known) = Width::known(width) else {
+            return DigitSet { width, largest: 0 };
+        };
+        DigitSet {
+            width,
+            largest: known.largest,
+        }
+    }
 }
 
 // What a raw byte is: a width from the smallest to the largest, or none.
@@ -50,10 +72,41 @@ impl Width {
         })
     }
 
+    // A whole width with another largest digit, where the two make a set: an odd one, from that of this width to that of the next; the largest width has its own alone.
+    pub fn reaching(self, digit: u8) -> Known
+        requires { ⌜ Whole self ⌝ }
+        ensures { λ r. ⌜ Reaches (self .bits) digit r ⌝ }
+    {
+        if digit % 2 == 0 {
+            return Known::Nothing;
+        }
+        if digit < self.largest {
+            return Known::Nothing;
+        }
+        if self.largest < digit / 2 {
+            return Known::Nothing;
+        }
+        if self.bits == Width::MOST {
+            if digit != self.largest {
+                return Known::Nothing;
+            }
+        }
+        Known::As(Width {
+            bits: self.bits,
+            largest: digit,
+        })
+    }
+
     pub fn bits(self) -> u32
         ensures { λ r. ⌜ r ≡ self .bits ⌝ }
     {
         self.bits as u32
+    }
+
+    pub fn largest(self) -> u32
+        ensures { λ r. ⌜ r ≡ self .largest ⌝ }
+    {
+        self.largest as u32
     }
 
     // How many odd multiples a run stores: one for each positive digit.

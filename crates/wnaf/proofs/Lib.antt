@@ -1,2 +1,3 @@
 pub mod Strings
 pub mod Stretches
+pub mod Taking

@@ -1,4 +1,4 @@
-// Form 2, wNAF: from the lowest place up, a stretch of the scalar at a time. A stretch holds what remains, and each digit is taken off it: the zeros under the
+// Form 2, wNAF, in any set: from the lowest place up, a stretch of the scalar at a time. A stretch holds what remains, and each digit is taken off it: the zeros under the
 // digit are jumped over by their count, and the w - 1 zeros after it with it.
 ghost use mathlib.Core.Path.{_≡_};
 ghost use Prim.Native.Nat.{_+_, _*_, _-_, _/_, _%_, _^_, _<_, _≤_};
@@ -7,9 +7,10 @@ ghost use lib.ListN.{length};
 ghost use Rattle.meaning.specs.Scalars.{number, orderOf, bitCount, mostBytes};
 ghost use Rattle.meaning.specs.Digits.{mostPlaces, top};
 ghost use Rattle.meaning.specs.Recoding.{markWords, marksOf};
+ghost use Rattle.meaning.specs.Sets.{Pair};
 ghost use Rattle.width.specs.Widths.{Wide};
-ghost use Rattle.forms.specs.Wnaf.{wnafFrom};
-ghost use Rattle.wnaf.specs.Stretches.{Carried, Standing, Takes};
+ghost use Rattle.forms.specs.Fractional.{fractionalFrom};
+ghost use Rattle.wnaf.specs.Stretches.{Carried, Left, Standing, Takes};
 use scalar::STRETCH;
 
 // How far the string is written, the carry that goes on, and the top so far.
@@ -27,25 +28,25 @@ fn minus(size: u64) -> i8
     0 - (size as i8)
 }
 
-// The digit by what is left over of a number that was raised by half the span of a digit.
-fn lowered(rest: u64, half: u64) -> i8
-    requires { ⌜ (0 < rest) × (rest < 2 * half) × (half ≤ 128) ⌝ }
-    ensures { λ r. ⌜ r ≡ pos rest -ℤ pos half ⌝ }
+// A digit by what is left over of a number that was raised by `over`.
+fn lowered(rest: u64, over: u64) -> i8
+    requires { ⌜ (rest < over + 128) × (over < rest + 128) ⌝ }
+    ensures { λ r. ⌜ r ≡ pos rest -ℤ pos over ⌝ }
 {
-    if rest < half {
-        return minus(half - rest);
+    if rest < over {
+        return minus(over - rest);
     }
-    (rest - half) as i8
+    (rest - over) as i8
 }
 
 // A digit below nought is paid back by a carry.
-fn carried(rest: u64, half: u64) -> u64
-    ensures { λ r. ⌜ Carried rest half r ⌝ }
+fn carried(rest: u64, over: u64) -> u64
+    ensures { λ r. ⌜ Carried rest over r ⌝ }
 {
-    if rest < half { 1 } else { 0 }
+    if rest < over { 1 } else { 0 }
 }
 
-// Half the span of a digit: a power of two over every digit.
+// Half the span of a digit: a power of two over every digit of the whole width.
 fn half_span(w: u32) -> u64
     requires { ⌜ Wide w ⌝ }
     ensures { λ r. ⌜ r ≡ 2 ^ (w - 1) ⌝ }
@@ -60,29 +61,62 @@ struct Taken {
     rest: u64,
 }
 
-// Takes the digit off what remains over its trailing zeros, where `half` is half its span. Nothing is written.
-fn take(w: u32, x: u64, zeros: u32, half: u64) -> Taken
-    requires { ⌜ (w ≤ 8) × (2 * half ≡ 2 ^ w) ⌝ }
-    requires { ⌜ (zeros < 64) × (0 < half) × (half ≤ 128) × (x < 2 ^ 57) ⌝ }
-    requires { ⌜ 0 < (x / 2 ^ zeros + half) % (2 * half) ⌝ }
-    ensures { λ r. ⌜ Takes x zeros half (r .digit) (r .carry) (r .rest) ⌝ }
+fn left(rest: u64, over: u64, above: u64) -> Taken
+    requires { ⌜ (rest < over + 128) × (over < rest + 128) ⌝ }
+    ensures { λ r. ⌜ Left rest over above (r .digit) (r .carry) (r .rest) ⌝ }
 {
-    let raised = (x >> zeros) + half;
-    let rest = raised % (2 * half);
     Taken {
-        digit: lowered(rest, half),
-        carry: carried(rest, half),
-        rest: raised >> w,
+        digit: lowered(rest, over),
+        carry: carried(rest, over),
+        rest: above,
     }
 }
 
-// The last place where a digit may start that ends in the stretch from place `from` on.
+// In a whole set the digit at an odd y is its signed residue modulo 2 ^ w: y is raised by half the span.
+fn take_whole(w: u32, half: u64, y: u64) -> Taken
+    requires { ⌜ Pair w (half - 1) ⌝ }
+    requires { ⌜ (2 * half ≡ 2 ^ w) × (y % 2 ≡ 1) × (y < 2 ^ 57) ⌝ }
+    ensures { λ r. ⌜ Takes w (half - 1) y (r .digit) (r .carry) (r .rest) ⌝ }
+{
+    let raised = y + half;
+    left(raised % (2 * half), half, raised >> w)
+}
+
+// In a set between two widths it is the one modulo 2 ^ (w + 1), where y raised by the largest digit leaves at most twice that over; else the one modulo 2 ^ w.
+fn take_between(w: u32, largest: u64, y: u64) -> Taken
+    requires { ⌜ Pair w largest ⌝ }
+    requires { ⌜ (y % 2 ≡ 1) × (y < 2 ^ 57) ⌝ }
+    ensures { λ r. ⌜ Takes w largest y (r .digit) (r .carry) (r .rest) ⌝ }
+{
+    let raised = y + largest;
+    let span = 2u64 << w;
+    let rest = raised % span;
+    let above = 2 * (raised / span);
+    if rest <= 2 * largest {
+        return left(rest, largest, above);
+    }
+    left(rest, largest + span / 2, above + 1)
+}
+
+// Takes the digit off an odd y. Nothing is written.
+fn take(w: u32, largest: u64, half: u64, y: u64) -> Taken
+    requires { ⌜ Pair w largest ⌝ }
+    requires { ⌜ (half ≡ 2 ^ (w - 1)) × (y % 2 ≡ 1) × (y < 2 ^ 57) ⌝ }
+    ensures { λ r. ⌜ Takes w largest y (r .digit) (r .carry) (r .rest) ⌝ }
+{
+    if largest < half {
+        return take_whole(w, half, y);
+    }
+    take_between(w, largest, y)
+}
+
+// The last place where a digit may start whose w + 1 bits lie in the stretch from place `from` on.
 fn last_start(w: u32, from: usize, places: usize) -> usize
     requires { ⌜ Wide w ⌝ }
     requires { ⌜ (from < places) × (places ≤ mostPlaces) ⌝ }
-    ensures { λ r. ⌜ (from ≤ r) × (r < places) × (r + w ≤ from + 56) ⌝ }
+    ensures { λ r. ⌜ (from ≤ r) × (r < places) × (r + w + 1 ≤ from + 56) ⌝ }
 {
-    let last = from + (STRETCH - (w as usize));
+    let last = from + (STRETCH - 1 - (w as usize));
     if last < places { last } else { places - 1 }
 }
 
@@ -97,6 +131,7 @@ fn onward(i: usize, last: usize) -> usize
 // Writes the digits that start and end in the stretch from place `from` on. What remains there is x, as far as the stretch goes.
 fn advance(
     w: u32,
+    largest: u64,
     order: u8,
     s: &[u8],
     from: usize,
@@ -105,12 +140,12 @@ fn advance(
     digits: &mut [i8],
     marks: &mut [u64],
 ) -> Reach
-    requires { ⌜ Wide w ⌝ }
+    requires { ⌜ Pair w largest ⌝ }
     requires { ⌜ length (now s) ≤ mostBytes ⌝ }
     requires { ⌜ from < length (now digits) ⌝ }
-    requires { ⌜ Standing w (orderOf order) (now s) from before under (now digits) (now marks) ⌝ }
+    requires { ⌜ Standing w largest (orderOf order) (now s) from before under (now digits) (now marks) ⌝ }
     ensures { λ r. ⌜ from < r .place ⌝ }
-    ensures { λ r. ⌜ Standing w (orderOf order) (now (s .entry)) (r .place) (r .carry) (r .top) (now (digits .exit)) (now (marks .exit)) ⌝ }
+    ensures { λ r. ⌜ Standing w largest (orderOf order) (now (s .entry)) (r .place) (r .carry) (r .top) (now (digits .exit)) (now (marks .exit)) ⌝ }
 {
     let half = half_span(w);
     let mut carry = before;
@@ -121,7 +156,7 @@ fn advance(
     let last = last_start(w, from, digits.len());
     while i + (zeros as usize) <= last {
         let at = i + (zeros as usize);
-        let taken = take(w, x, zeros, half);
+        let taken = take(w, largest, half, x >> zeros);
         places::put(digits, marks, at, taken.digit);
         carry = taken.carry;
         x = taken.rest;
@@ -137,12 +172,19 @@ fn advance(
 }
 
 // Writes the string of `s` into exactly as many places as it has, and its marks. The last digit has the top.
-pub fn write(w: u32, order: u8, s: &[u8], digits: &mut [i8], marks: &mut [u64]) -> usize
-    requires { ⌜ Wide w ⌝ }
+pub fn write(
+    w: u32,
+    largest: u64,
+    order: u8,
+    s: &[u8],
+    digits: &mut [i8],
+    marks: &mut [u64],
+) -> usize
+    requires { ⌜ Pair w largest ⌝ }
     requires { ⌜ length (now s) ≤ mostBytes ⌝ }
     requires { ⌜ length (now digits) ≡ bitCount (now s) + 1 ⌝ }
     requires { ⌜ length (now marks) ≡ markWords ⌝ }
-    ensures { λ _. ⌜ now (digits .exit) ≡ wnafFrom w (bitCount (now (s .entry)) + 1) (number (orderOf order) (now (s .entry))) ⌝ }
+    ensures { λ _. ⌜ now (digits .exit) ≡ fractionalFrom w largest (bitCount (now (s .entry)) + 1) (number (orderOf order) (now (s .entry))) ⌝ }
     ensures { λ _. ⌜ now (marks .exit) ≡ marksOf (now (digits .exit)) ⌝ }
     ensures { λ r. ⌜ r ≡ top (now (digits .exit)) ⌝ }
 {
@@ -151,7 +193,7 @@ pub fn write(w: u32, order: u8, s: &[u8], digits: &mut [i8], marks: &mut [u64]) 
     let mut top: usize = 0;
     let mut i: usize = 0;
     while i < digits.len() {
-        let reach = advance(w, order, s, i, carry, top, digits, marks);
+        let reach = advance(w, largest, order, s, i, carry, top, digits, marks);
         carry = reach.carry;
         top = reach.top;
         i = reach.place;

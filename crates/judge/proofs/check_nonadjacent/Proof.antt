@@ -16,42 +16,42 @@ abbrev start : tie.After-check → tie.Start
 start c = c .before .before
 
 -- the lower place of the lowest pair
-pair : (c : tie.After-place) → let a = start (c .before .before .before .before .before) .args in Lowest (Crowded (a .width) (now (a .digits))) (c .place .given .0 .0)
+pair : (c : tie.After-place) → let a = start (c .before .before .before .before .before .before) .args in Lowest (Crowded (a .set .width) (now (a .digits))) (c .place .given .0 .0)
 pair c =
     let k = c .before .before in
-    let a = start (k .before .before .before) .args in
-    subst (Spacing (a .width) (now (a .digits))) (c .place .given .1) (k .spacing .ensures)
+    let a = start (k .before .before .before .before) .args in
+    subst (Spacing (a .set .width) (now (a .digits))) (c .place .given .1) (k .spacing .ensures)
 
 returns : tie.Need-returns
 returns c =
     let k = c .before .before in
     let a = start k .args in
-    plain-refuses (a .width) (ordered (a .order)) (now (a .scalar)) (now (a .digits)) (k .check .ensures) (c .if1 .taken)
+    plain-refuses (a .set .width) (a .set .largest) (ordered (a .order)) (now (a .scalar)) (now (a .digits)) (k .check .ensures) (c .if1 .taken)
 
 cast-refused : tie.Need-cast-refused
 cast-refused c =
-    let e = c .before .before .before .before in
+    let e = c .before .before .before .before .before in
     let k = e .before .before in
     let a = start k .args in
-    omega (arith, crowded-few (a .width) (ordered (a .order)) (now (a .scalar)) (now (a .digits)) (k .check .ensures) (e .if1 .left) (pair (c .before) .0))
+    omega (arith, crowded-few (a .set .width) (a .set .largest) (ordered (a .order)) (now (a .scalar)) (now (a .digits)) (k .check .ensures) (e .if1 .left) (pair (c .before) .0))
 
 returns-2 : tie.Need-returns-2
 returns-2 c =
     let p = c .before .before in
-    let e = p .before .before .before in
+    let e = p .before .before .before .before in
     let k = e .before .before in
     let a = start k .args in
-    refuses (nonadjacentRules (a .width) (ordered (a .order)) (now (a .scalar)) (now (a .digits))) tt (now (a .digits)) 5 _ (c .refused .ensures) (until-10 (a .width) (ordered (a .order)) (now (a .scalar)) (now (a .digits)) (k .check .ensures) (e .if1 .left) (pair p))
+    refuses (nonadjacentRules (a .set .width) (a .set .largest) (ordered (a .order)) (now (a .scalar)) (now (a .digits))) tt (now (a .digits)) 6 _ (c .refused .ensures) (until-10 (a .set .width) (a .set .largest) (ordered (a .order)) (now (a .scalar)) (now (a .digits)) (k .check .ensures) (e .if1 .left) (pair p))
 
 returns-3 : tie.Need-returns-3
 returns-3 c =
     let s = c .before .before in
-    let e = s .before in
+    let e = s .before .before in
     let k = e .before .before in
     let a = start k .args in
-    plain-accepts (a .width) (ordered (a .order)) (now (a .scalar)) (now (a .digits)) (k .check .ensures) (e .if1 .left)
-    (subst (Spacing (a .width) (now (a .digits))) (c .enum-told .given .1) (s .spacing .ensures))
+    plain-accepts (a .set .width) (a .set .largest) (ordered (a .order)) (now (a .scalar)) (now (a .digits)) (k .check .ensures) (e .if1 .left)
+    (subst (Spacing (a .set .width) (now (a .digits))) (c .enum-told .given .1) (s .spacing .ensures))
 
 pub check-nonadjacent-spec : {M : Type 1} → statement M
 check-nonadjacent-spec =
-    tie.close (tie.spec (λ c κs. search needs) returns (λ c κs. search needs) (λ c. search needs) cast-refused (λ c κs. search needs) (λ c. search needs) returns-2 returns-3)
+    tie.close (tie.spec (λ c κs. search needs) returns (λ c. search needs) (λ c κs. search needs) (λ c. search needs) cast-refused (λ c κs. search needs) (λ c. search needs) returns-2 returns-3)

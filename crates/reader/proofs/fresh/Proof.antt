@@ -4,7 +4,7 @@ use borrow.Author.Needs.{needs}
 use denote.Ref.{now}
 use mir.Facts.{toZ-ofZ}
 use Rattle.meaning.specs.Scalars.{orderOf}
-use Rattle.width.proofs.Widths.{known-bits, known-wide, known-lawful, known-bad}
+use Rattle.width.proofs.Widths.{known-bits, known-wide, known-whole, known-bad}
 use Rattle.reader.proofs.Takes.{fresh-opened, fresh-none, fresh-over, fresh-bad}
 use Rattle.reader.proofs.fresh.Statement.{statement}
 use Rattle.reader.proofs.fresh.Tie as tie
@@ -12,7 +12,7 @@ use Rattle.reader.proofs.fresh.Tie as tie
 opening-requires : tie.Need-opening-requires
 opening-requires c κs =
     let k = c .before .before .before in
-    (known-lawful _ (k .known .ensures) (c .before .w .given .1) .0, search needs)
+    (known-whole _ (k .known .ensures) (c .before .w .given .1) .0, search needs)
 
 returns : tie.Need-returns
 returns c =

@@ -1,91 +1,75 @@
 -- `recoder::judge` meets its contract: the rules before the first that applies do not. Assumes nothing.
-use mathlib.Core.Path.{refl}
-use mathlib.Core.Logic.{inl, inr, ⊎-elim}
-use mathlib.Core.List.{[]}
+use mathlib.Core.Path.{refl, subst}
+use mathlib.Core.List.{[], _++_}
+use lib.ListN.{drop}
 use native.Mathlib.Omega.{arith}
 use borrow.Author.Needs.{needs}
 use denote.Ref.{now}
-use Rattle.meaning.specs.Recoding.{recodeRules}
-use Rattle.forms.proofs.Refusals.{first-at, first-none}
-use Rattle.width.proofs.Widths.{known-bits, known-wide, known-bad}
-use Rattle.recoder.specs.Judged.{Admits, Allowed}
-use Rattle.recoder.proofs.Refusals.{is-form, is-width, admits}
+use Rattle.meaning.specs.Recoding.{formRules, setFor, recodeRules}
+use Rattle.forms.proofs.Refusals.{first-at, first-none, first-kept}
+use Rattle.recoder.specs.Judged.{Chooses, Chosen, Admits}
+use Rattle.recoder.proofs.Refusals.{is-form, is-width, is-set, admits}
 use Rattle.recoder.proofs.judge.Statement.{statement}
 use Rattle.recoder.proofs.judge.Tie as tie
 
+-- the function's entry, and the set that was found
+abbrev start : tie.After-known-told2 → tie.Start
+start c = c .before .before .before .before .before
+
+chosen : (c : tie.After-known-told2) → let a = start c .args in Chosen (a .form) (a .set .width) (a .set .largest) (c .before .w .given .0 .0)
+unfolding Chooses
+chosen c =
+    let a = start c .args in
+    subst (Chooses (a .form) (a .set .width) (a .set .largest)) (c .before .w .given .1) (c .before .before .before .chosen .ensures)
+
 returns : tie.Need-returns
 unfolding Admits
-returns c = ((λ z. omega arith), inl (refl, (inl (c .if1 .taken), refl)))
+returns c =
+    let a = start (c .before) .args in
+    let A = chosen (c .before) .allowed in
+    ((λ z. omega arith), first-at (recodeRules (a .form) (a .set .width) (a .set .largest) (now (a .s)) (a .places) (a .words)) 3 0 (is-form _ _ _ A, (is-width _ _ _ A, (is-set _ _ _ A, (c .if1 .taken, refl)))))
 
 returns-2 : tie.Need-returns-2
 unfolding Admits
-returns-2 c = ((λ z. omega arith), inl (refl, (inr (c .if2 .taken), refl)))
-
--- the function's entry, and that the width was found to be one at which the form is
-abbrev start : tie.Joined3 → tie.Start
-start c = c .before .before .before .before .before .before .before .before
-
-allowed : (c : tie.Joined3) → Allowed (start c .args .form) (start c .args .width)
-allowed c =
-    let known = c .before .before .before .before in
-    record {
-      least = omega arith;
-      most = omega arith;
-      wide = known-wide (start c .args .width) (known .known .ensures) (c .before .before .known2 .given .1);
-      narrow = λ e. ⊎-elim (λ x. x .1 .left) (λ x. absurd (x .left e)) (c .if3 .came);
-    }
+returns-2 c =
+    let k = c .before .before in
+    let a = start k .args in
+    let A = chosen k .allowed in
+    ((λ z. omega arith), first-at (recodeRules (a .form) (a .set .width) (a .set .largest) (now (a .s)) (a .places) (a .words)) 4 0 (is-form _ _ _ A, (is-width _ _ _ A, (is-set _ _ _ A, ((λ h. omega (arith, h, c .before .if1 .left)), (c .if2 .taken, refl))))))
 
 returns-3 : tie.Need-returns-3
 unfolding Admits
 returns-3 c =
-    let p = c .before .before in
-    let a = p .before .before .before .before .args in
-    ((λ z. omega arith), first-at (recodeRules (a .form) (a .width) (now (a .s)) (a .places) (a .words)) 1 0 (⊎-elim (λ l. omega arith) (λ l. omega arith), (inl (known-bad (a .width) (p .known .ensures) (c .enum-told .given .1)), refl)))
+    let e = c .before .before in
+    let a = start (e .before) .args in
+    let A = chosen (e .before) .allowed in
+    ((λ z. omega arith), first-at (recodeRules (a .form) (a .set .width) (a .set .largest) (now (a .s)) (a .places) (a .words)) 5 0 (is-form _ _ _ A, (is-width _ _ _ A, (is-set _ _ _ A, ((λ h. omega (arith, h, e .if1 .left)), ((λ h. omega (arith, h, c .before .if2 .left)), (c .if3 .taken, refl)))))))
 
 returns-4 : tie.Need-returns-4
-unfolding Admits
+unfolding Chooses Admits
 returns-4 c =
-    let p = c .before .before .before .before .before in
-    let a = p .before .before .before .before .args in
-    ((λ z. omega arith), first-at (recodeRules (a .form) (a .width) (now (a .s)) (a .places) (a .words)) 1 0 (⊎-elim (λ l. omega arith) (λ l. omega arith), (inr (c .before .if3 .taken, c .if4 .taken), refl)))
+    let k = c .before .before .before in
+    let a = k .before .before .args in
+    let J = subst (Chooses (a .form) (a .set .width) (a .set .largest)) (c .before .number .given .1) (k .chosen .ensures) in
+    (J .0, first-kept (formRules (a .form) (a .set .width) ++ setFor (a .form) (a .set .width) (a .set .largest)) (drop 3 (recodeRules (a .form) (a .set .width) (a .set .largest) (now (a .s)) (a .places) (a .words))) _ 0 (J .0) (J .1))
 
 returns-5 : tie.Need-returns-5
 unfolding Admits
 returns-5 c =
-    let a = start (c .before) .args in
-    ((λ z. omega arith), first-at (recodeRules (a .form) (a .width) (now (a .s)) (a .places) (a .words)) 2 0 (is-form (a .form) (a .width) (now (a .s)) (a .places) (a .words) (allowed (c .before)), (is-width (a .form) (a .width) (now (a .s)) (a .places) (a .words) (allowed (c .before)), (c .if5 .taken, refl))))
-
-returns-6 : tie.Need-returns-6
-unfolding Admits
-returns-6 c =
-    let p = c .before .before in
-    let a = start p .args in
-    ((λ z. omega arith), first-at (recodeRules (a .form) (a .width) (now (a .s)) (a .places) (a .words)) 3 0 (is-form (a .form) (a .width) (now (a .s)) (a .places) (a .words) (allowed p), (is-width (a .form) (a .width) (now (a .s)) (a .places) (a .words) (allowed p), ((λ h. omega arith), (c .if6 .taken, refl)))))
-
-returns-7 : tie.Need-returns-7
-unfolding Admits
-returns-7 c =
-    let p = c .before .before .before in
-    let a = start p .args in
-    ((λ z. omega arith), first-at (recodeRules (a .form) (a .width) (now (a .s)) (a .places) (a .words)) 4 0 (is-form (a .form) (a .width) (now (a .s)) (a .places) (a .words) (allowed p), (is-width (a .form) (a .width) (now (a .s)) (a .places) (a .words) (allowed p), ((λ h. omega arith), ((λ h. omega arith), (c .if7 .taken, refl))))))
-
-returns-8 : tie.Need-returns-8
-unfolding Admits
-returns-8 c =
-    let p = c .before .before .before in
-    let a = start p .args in
-    let known = p .before .before .before .before in
+    let e = c .before .before in
+    let a = start (e .before) .args in
+    let C = chosen (e .before) in
+    let short = e .if1 .left in
+    let room = c .before .if2 .left in
     record {
-      bits-is = known-bits (a .width) (known .known .ensures) (p .before .before .known2 .given .1);
-      allowed = allowed p;
+      chosen = C;
       short = omega arith;
       room = omega arith;
-      marks = omega arith;
-      first = first-none (recodeRules (a .form) (a .width) (now (a .s)) (a .places) (a .words)) (admits (a .form) (a .width) (now (a .s)) (a .places) (a .words) (allowed p) [] tt (omega arith) (omega arith) (omega arith));
+      marks = omega (arith, c .if3 .left);
+      first = first-none (recodeRules (a .form) (a .set .width) (a .set .largest) (now (a .s)) (a .places) (a .words)) (admits _ _ _ (C .allowed) (now (a .s)) (a .places) (a .words) [] tt (omega arith) (omega arith) (omega (arith, c .if3 .left)));
     }
 
 pub judge-spec : {M : Type 1} → statement M
 judge-spec =
     tie.close
-    (tie.spec returns returns-2 (λ c κs. search needs) (λ c. search needs) (λ c. search needs) returns-3 returns-4 returns-5 (λ c. search needs) (λ c. search needs)
-    returns-6 returns-7 returns-8)
+    (tie.spec (λ c κs. search needs) (λ c. search needs) (λ c. search needs) returns (λ c. search needs) (λ c. search needs) returns-2 returns-3 returns-4 returns-5)

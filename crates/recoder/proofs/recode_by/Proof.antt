@@ -1,14 +1,13 @@
 -- `recoder::recode_by` meets its contract: a refusal leaves both buffers, and on acceptance their first places and words are written. Assumes nothing.
-use mathlib.Core.Path.{_≡_, refl, sym, ap, subst}
+use mathlib.Core.Path.{refl, sym, ap, subst}
 use mathlib.Core.List.{_++_}
 use native.Mathlib.Omega.{arith}
 use borrow.Author.Needs.{needs}
 use lib.ListN.{length, drop}
 use lib.Seq.{length-take-le}
 use denote.Ref.{now}
-use Rattle.meaning.specs.Scalars.{number, orderOf, bitCount}
-use Rattle.meaning.specs.Forms.{Form}
 use Rattle.recoder.specs.Judged.{Admits, Admitted}
+use Rattle.recoder.proofs.Formed.{allowed-in, formed-in}
 use Rattle.recoder.proofs.recode_by.Statement.{statement}
 use Rattle.recoder.proofs.recode_by.Tie as tie
 
@@ -16,11 +15,11 @@ use Rattle.recoder.proofs.recode_by.Tie as tie
 abbrev start : tie.After-known-told2 → tie.Start
 start c = c .before .before .before .before .before .before
 
-admitted : (c : tie.After-known-told2) → let a = start c .args in Admitted (a .form) (a .width) (now (a .s)) (length (now (a .digits))) (length (now (a .marks))) (c .before .judged2 .given .0 .0)
+admitted : (c : tie.After-known-told2) → let a = start c .args in Admitted (a .form) (a .set .width) (a .set .largest) (now (a .s)) (length (now (a .digits))) (length (now (a .marks))) (c .before .judged2 .given .0 .0)
 unfolding Admits
 admitted c =
     let a = start c .args in
-    subst (λ r. Admits (a .form) (a .width) (now (a .s)) (length (now (a .digits))) (length (now (a .marks))) r) (c .before .judged2 .given .1) (c .before .before .before .judge .ensures)
+    subst (λ r. Admits (a .form) (a .set .width) (a .set .largest) (now (a .s)) (length (now (a .digits))) (length (now (a .marks))) r) (c .before .judged2 .given .1) (c .before .before .before .judge .ensures)
 
 mul-places : tie.Need-mul-places
 mul-places c = omega (arith, admitted c .short)
@@ -43,13 +42,13 @@ slice-aggregate-fill-2 c = sym (length-take-le 9 (now (start (c .before .before)
 fill-requires : tie.Need-fill-requires
 fill-requires c κs =
     let A = admitted (c .before .before) in
-    (rw (A .bits-is) (A .allowed), (A .short, (length-take-le _ _ (A .room), length-take-le 9 (now (start (c .before .before) .args .marks)) (A .marks))))
+    (allowed-in (A .chosen), (A .short, (length-take-le _ _ (A .room), length-take-le 9 (now (start (c .before .before) .args .marks)) (A .marks))))
 
 returns : tie.Need-returns
 unfolding Admits
 returns c =
     let a = c .before .before .before .before .before .before .args in
-    let J = subst (λ r. Admits (a .form) (a .width) (now (a .s)) (length (now (a .digits))) (length (now (a .marks))) r) (c .before .judged .given .1) (c .before .before .before .judge .ensures) in
+    let J = subst (λ r. Admits (a .form) (a .set .width) (a .set .largest) (now (a .s)) (length (now (a .digits))) (length (now (a .marks))) r) (c .before .judged .given .1) (c .before .before .before .judge .ensures) in
     record {
       first = J .1;
       accepted = λ e. absurd (J .0 e);
@@ -67,7 +66,7 @@ returns-2 c =
       first = rw (W .accepted, W .no-place) (A .first);
       accepted = λ e. record {
         string = f .fill .last .1 .1 .1 .1 .0;
-        formed = subst (λ w. Form (a .form) w (number (orderOf (a .order)) (now (a .s))) (bitCount (now (a .s))) (f .fill .last .1 .1 .1 .1 .0)) (A .bits-is) (W .formed);
+        formed = formed-in (A .chosen) _ _ _ (W .formed);
         digits-are = refl;
         marks-are = ap (λ x. x ++ drop 9 (now (a .marks))) (W .marks-are);
         weight-is = W .weight-is;

@@ -15,7 +15,7 @@ returns c =
     let b = g .outside .result in
     record {
       refused = λ n. absurd (n refl);
-      passed = λ z places words n p f. stands-for b (a .form) (a .width) (now (a .s)) (groupRules (orderOf (a .order)) (now (a .s)) (now (a .group))) tt (g .outside .ensures) places words n p (spare b (a .form) (a .width) (now (a .s)) (c .if1 .taken) f);
+      passed = λ z places words n p f. stands-for b (a .form) (a .set .width) (a .set .largest) (now (a .s)) (groupRules (orderOf (a .order)) (now (a .s)) (now (a .group))) tt (g .outside .ensures) places words n p (spare b (a .form) (a .set .width) (a .set .largest) (now (a .s)) (c .if1 .taken) f);
     }
 
 returns-2 : tie.Need-returns-2
@@ -24,7 +24,7 @@ returns-2 c =
     let a = g .before .before .before .args in
     let E = c .earlier .ensures in
     record {
-      refused = λ n places words. stands-for (g .outside .result) (a .form) (a .width) (now (a .s)) (groupRules (orderOf (a .order)) (now (a .s)) (now (a .group))) tt (g .outside .ensures) places words _ 0 (E .first places words);
+      refused = λ n places words. stands-for (g .outside .result) (a .form) (a .set .width) (a .set .largest) (now (a .s)) (groupRules (orderOf (a .order)) (now (a .s)) (now (a .group))) tt (g .outside .ensures) places words _ 0 (E .first places words);
       passed = λ z. absurd (E .some z);
     }
 

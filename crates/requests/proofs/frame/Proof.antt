@@ -29,7 +29,7 @@ after-read c = c .before .before .before .before .before .before .before .before
 work : (c : tie.After-recode)
     → let a = start c .args in
     let q = c .recode in
-    Worked (now (a .line)) (now (a .bytes)) (now (a .digits)) (now (a .marks)) (after-read c .read .last .1 .0) (q .last .1 .1 .1 .1 .0) (q .last .1 .1 .1 .1 .1 .0)
+    Worked (now (a .line)) (now (a .bytes)) (now (a .digits)) (now (a .marks)) (after-read c .read .last .1 .0) (q .last .1 .1 .1 .0) (q .last .1 .1 .1 .1 .0)
     (told (q .result))
 work c =
     let s = start c in
@@ -42,13 +42,13 @@ module _ (c : tie.After-recode) (none : c .recode .result .refusal ≡ 0) where
   places = omega (arith, length-drop 3 (bytesOf (now (start c .args .line))), bytes-count (now (start c .args .line)))
 
   few : 8 * (length (now (start c .args .line)) / 2 - 3) + 1 ≤ 529
-  few = omega (arith, places, room (work c .recoded) none .0)
+  few = omega (arith, places, room _ _ (work c .recoded) none .0)
 
-  fits : 8 * (length (now (start c .args .line)) / 2 - 3) + 1 ≤ length (c .recode .last .1 .1 .1 .1 .0)
-  fits = omega (arith, places, c .recode .kept .1 .1 .1 .1 .0, room (work c .recoded) none .1)
+  fits : 8 * (length (now (start c .args .line)) / 2 - 3) + 1 ≤ length (c .recode .last .1 .1 .1 .0)
+  fits = omega (arith, places, c .recode .kept .1 .1 .1 .0, room _ _ (work c .recoded) none .1)
 
-  string : take (8 * (length (now (start c .args .line)) / 2 - 3) + 1) (c .recode .last .1 .1 .1 .1 .0) ≡ work c .recoded .accepted none .string
-  string = ap (λ n. take n (c .recode .last .1 .1 .1 .1 .0)) places ∙ string-is (work c .recoded) none (c .recode .kept .1 .1 .1 .1 .0)
+  string : take (8 * (length (now (start c .args .line)) / 2 - 3) + 1) (c .recode .last .1 .1 .1 .0) ≡ work c .recoded .accepted none .string
+  string = ap (λ n. take n (c .recode .last .1 .1 .1 .0)) places ∙ string-is _ _ (work c .recoded) none (c .recode .kept .1 .1 .1 .0)
 
 read-requires : tie.Need-read-requires
 read-requires c κs =

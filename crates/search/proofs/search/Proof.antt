@@ -6,7 +6,7 @@ use native.Mathlib.Omega.{arith}
 use lib.IntN.{pos}
 use Rattle.meaning.specs.Searching.{searchPlaces}
 use Rattle.width.specs.Widths.{Wide}
-use Rattle.width.proofs.Widths.{known-bits, known-wide, known-lawful, known-bad}
+use Rattle.width.proofs.Widths.{known-bits, known-wide, known-whole, known-bad}
 use Rattle.search.specs.Least.{Least}
 use Rattle.search.proofs.Refusals.{refuses, accepts}
 use Rattle.search.proofs.search.Statement.{statement}
@@ -27,7 +27,7 @@ returns-2 c =
 least-requires : tie.Need-least-requires
 least-requires c κs =
     let k = c .before .before .before in
-    (known-lawful _ (k .before .before .known .ensures) (k .known2 .given .1), omega arith)
+    (known-whole _ (k .before .before .known .ensures) (k .known2 .given .1), omega arith)
 
 returns-3 : tie.Need-returns-3
 returns-3 c =

@@ -10,4 +10,4 @@ slice-aggregate-run : tie.Need-slice-aggregate-run
 slice-aggregate-run c = sym (length-take-le _ _ (omega arith))
 
 pub run-spec : {M : Type 1} → statement M
-run-spec = tie.close (tie.spec slice-aggregate-run (λ c κs. search needs) (λ c. search needs) (λ c. search needs))
+run-spec = tie.close (tie.spec (λ c κs. search needs) slice-aggregate-run (λ c κs. search needs) (λ c. search needs) (λ c. search needs))

@@ -7,59 +7,47 @@ use borrow.Author.Needs.{needs, sfits-of}
 use denote.Ref.{now}
 use lib.Count.{trailing-le}
 use lib.ListN.{length, set}
-use lib.Pow.{pow-pos, pow-mono}
+use lib.Pow.{pow-pos}
 use mir.Syntax.{w8}
 use mir.Facts.{toZ-ofZ}
 use Rattle.meaning.specs.Scalars.{number, orderOf, bitCount}
 use Rattle.meaning.specs.Recoding.{marksOf}
-use Rattle.laws.proofs.Powers.{pow-pred}
+use Rattle.meaning.specs.Sets.{Between}
+use Rattle.width.proofs.Widths.{pair-wide, pair-small}
 use Rattle.places.proofs.Marking.{marks-length}
-use Rattle.wnaf.proofs.Stretches.{Going, going-start, going-past, going-few, going-rest, going-digit, going-zero, going-on}
+use Rattle.wnaf.proofs.Stretches.{Going, going-start, going-past, going-few, going-odd, going-digit, going-zero, going-on}
 use Rattle.wnaf.proofs.advance.Statement.{statement}
 use Rattle.wnaf.proofs.advance.Tie as tie
 
 abbrev Inv-loop : tie.InvT-loop
-Inv-loop w order s from before under digits₀ marks₀ half carry₀ top₀ i₀ x₀ zeros₀ last digits marks carry top i x zeros =
-    Going w (bitCount s + 1) (number (orderOf order) s) from i carry x zeros top digits × (marks ≡ marksOf digits)
+Inv-loop w largest order s from before under digits₀ marks₀ half carry₀ top₀ i₀ x₀ zeros₀ last digits marks carry top i x zeros =
+    Going w largest (bitCount s + 1) (number (orderOf order) s) from i carry x zeros top digits × (marks ≡ marksOf digits)
 
 abbrev μ-loop : tie.MeasureT-loop
-μ-loop w order s from before under digits₀ marks₀ half carry₀ top₀ i₀ x₀ zeros₀ last digits marks carry top i x zeros = last + 1 - i
+μ-loop w largest order s from before under digits₀ marks₀ half carry₀ top₀ i₀ x₀ zeros₀ last digits marks carry top i x zeros = last + 1 - i
 
 -- what the function was called with
 abbrev start : tie.At-loop Inv-loop μ-loop → tie.Start Inv-loop μ-loop
 start l = l .before .before .before .before .before .before
 
--- the buffer, and what is known of the width, of the half and of the last start
+-- the buffer, and what is known of the set, of the half and of the last start
 size : (c : tie.Start Inv-loop μ-loop) → length (now (c .args .digits)) ≤ 529
 size c = omega (arith, c .pre .1 .1 .1 .reached .same-length, c .pre .1 .0)
-
-abbrev half : tie.At-loop Inv-loop μ-loop → ℕ
-half l = l .before .before .before .half-span .result
 
 abbrev last : tie.At-loop Inv-loop μ-loop → ℕ
 last l = l .before .last-start .result
 
-two : (l : tie.At-loop Inv-loop μ-loop) → 2 ≤ start l .args .w
-two l = start l .pre .0 .0
+of : (l : tie.At-loop Inv-loop μ-loop) → Between (start l .args .w) (start l .args .largest)
+of l = start l .pre .0 .between
 
-most : (l : tie.At-loop Inv-loop μ-loop) → start l .args .w ≤ 8
-most l = start l .pre .0 .1
+few : (l : tie.At-loop Inv-loop μ-loop) → start l .args .largest < 128
+few l = pair-small (start l .pre .0)
 
-half-is : (l : tie.At-loop Inv-loop μ-loop) → half l ≡ 2 ^ (start l .args .w - 1)
-half-is l = l .before .before .before .half-span .ensures
-
-room : (l : tie.At-loop Inv-loop μ-loop) → last l + start l .args .w ≤ start l .args .from + 56
+room : (l : tie.At-loop Inv-loop μ-loop) → last l + start l .args .w + 1 ≤ start l .args .from + 56
 room l = l .before .last-start .ensures .2
 
 short : (l : tie.At-loop Inv-loop μ-loop) → last l < 529
 short l = omega (arith, l .before .last-start .ensures .1, size (start l))
-
--- the half is a power of two
-power : (l : tie.At-loop Inv-loop μ-loop) → (0 < half l) × (half l ≤ 128)
-power l =
-    let k : start l .args .w - 1 ≤ 7 = omega (arith, most l) in
-    let b : 2 ^ (start l .args .w - 1) ≤ 2 ^ 7 = pow-mono k in
-    (omega (arith, half-is l, pow-pos (start l .args .w - 1)), omega (arith, half-is l, b))
 
 -- the turn, where its digit is taken
 abbrev turn : tie.After-take Inv-loop μ-loop → tie.At-loop Inv-loop μ-loop
@@ -74,7 +62,7 @@ inside : (l : tie.At-loop Inv-loop μ-loop) → l .loop .i + l .loop .zeros ≤ 
 inside l t = omega (arith, t, l .before .last-start .ensures .1, start l .pre .1 .1 .1 .reached .same-length)
 
 half-span-requires : tie.Need-half-span-requires Inv-loop μ-loop
-half-span-requires c κs = search needs
+half-span-requires c κs = pair-wide (c .before .before .pre .0)
 
 stretch-requires : tie.Need-stretch-requires Inv-loop μ-loop
 stretch-requires c κs = search needs
@@ -87,7 +75,7 @@ add-x c =
 last-start-requires : tie.Need-last-start-requires Inv-loop μ-loop
 last-start-requires c κs =
     let s = c .before .before .before .before in
-    (s .pre .0, (s .pre .1 .1 .0, size s))
+    (pair-wide (s .pre .0), (s .pre .1 .1 .0, size s))
 
 loop-holds : tie.Need-loop-holds Inv-loop μ-loop
 loop-holds c =
@@ -107,13 +95,14 @@ cast-at c = record { fits = omega (arith, c .before .loop .inv .0 .zeros-are, tr
 add-at : tie.Need-add-at Inv-loop μ-loop
 add-at c = record { fits = omega (arith, c .loop-test .taken, short (c .before)) }
 
+shr-take : tie.Need-shr-take Inv-loop μ-loop
+shr-take c = let l = c .before in going-few (of l) (few l) (room l) (l .loop .inv .0) (c .loop-test .taken)
+
 take-requires : tie.Need-take-requires Inv-loop μ-loop
 take-requires c κs =
     let l = c .before in
-    let g = l .loop .inv .0 in
-    let t = c .loop-test .taken in
-    let (some, few) = power l in
-    ((most l, omega (arith, half-is l, pow-pred (start l .args .w) (omega (arith, two l)))), ((going-few (two l) (most l) (half-is l) (room l) g t, some, few, g .fits), going-rest (two l) (most l) (half-is l) (room l) g t))
+    let (odd, small) = going-odd (of l) (few l) (room l) (l .loop .inv .0) (c .loop-test .taken) in
+    (start l .pre .0, (l .before .before .before .half-span .ensures, odd, small))
 
 put-requires : tie.Need-put-requires Inv-loop μ-loop
 put-requires c κs =
@@ -123,11 +112,11 @@ put-requires c κs =
     let t = begun o in
     let m = g .reached .same-length in
     let there = inside l t in
-    let digit = toZ-ofZ {w = w8} {z = o .take .result .digit} (sfits-of (c .struct-told .given .0 .1)) ∙ o .take .ensures .digit-is in (
+    let digit = toZ-ofZ {w = w8} {z = o .take .result .digit} (sfits-of (c .struct-told .given .0 .1)) in (
       omega (arith, m, there),
       (
         omega (arith, m, start l .pre .1 .0),
-        (l .loop .inv .1, (going-zero (two l) (most l) (half-is l) (room l) g t, λ e. going-digit (two l) (most l) (half-is l) (room l) g t (sym digit ∙ e))),
+        (l .loop .inv .1, (going-zero (of l) (few l) (room l) g t, λ e. going-digit (of l) (few l) (room l) g t (o .take .ensures) (sym digit ∙ e))),
       ),
     )
 
@@ -142,17 +131,16 @@ add-i : tie.Need-add-i Inv-loop μ-loop
 add-i c = let l = turn (taken c) in record { fits = omega (arith, begun (taken c), room l, start l .pre .1 .1 .0, size (start l)) }
 
 loop-less : tie.Need-loop-less Inv-loop μ-loop
-loop-less c = omega (arith, begun (taken c), two (turn (taken c)))
+loop-less c = omega (arith, begun (taken c), of (turn (taken c)) .wide)
 
 loop-again : tie.Need-loop-again Inv-loop μ-loop
 loop-again c =
     let o = taken c in
     let l = turn o in
     let k = c .before .before .before in
-    let t = o .take .ensures in
-    let digit = toZ-ofZ {w = w8} {z = o .take .result .digit} (sfits-of (k .before .struct-told .given .0 .1)) ∙ t .digit-is in
+    let digit = toZ-ofZ {w = w8} {z = o .take .result .digit} (sfits-of (k .before .struct-told .given .0 .1)) in
     let d = k .put .ensures .0 ∙ ap (set (l .loop .digits) (l .loop .i + l .loop .zeros)) digit in
-    (rw (t .rest-is) (going-on (two l) (most l) (half-is l) (room l) (l .loop .inv .0) (begun o) (o .take .result .carry) (inside l (begun o)) (t .carry-is) d), k .put .ensures .1)
+    (going-on (of l) (few l) (room l) (l .loop .inv .0) (begun o) (o .take .ensures) (inside l (begun o)) d, k .put .ensures .1)
 
 onward-requires : tie.Need-onward-requires Inv-loop μ-loop
 onward-requires c κs = short (c .before)
@@ -171,11 +159,11 @@ returns : tie.Need-returns Inv-loop μ-loop
 returns c =
     let l = c .before .before in
     let g = l .loop .inv .0 in
-    let (more, reached) = going-past (two l) (most l) (half-is l) (room l) g (c .onward .ensures .0) (c .onward .ensures .1) (c .before .loop-test .left) (l .before .last-start .ensures .0) in
+    let (more, reached) = going-past (of l) (few l) (room l) g (c .onward .ensures .0) (c .onward .ensures .1) (c .before .loop-test .left) (l .before .last-start .ensures .0) in
     (more, record { reached = reached; marks-are = l .loop .inv .1; small = g .small; top-is = g .top-is })
 
 pub advance-spec : {M : Type 1} → statement M
 advance-spec =
     tie.close
-    (tie.spec Inv-loop μ-loop half-span-requires stretch-requires add-x last-start-requires loop-holds cast-loop add-loop cast-at add-at take-requires put-requires
+    (tie.spec Inv-loop μ-loop half-span-requires stretch-requires add-x last-start-requires loop-holds cast-loop add-loop cast-at add-at (λ c. search needs) shr-take take-requires put-requires
     add-top add-i loop-less loop-again onward-requires same-length same-length-2 returns)

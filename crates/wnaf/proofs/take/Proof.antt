@@ -1,29 +1,22 @@
--- `wnaf::take` meets its contract. Assumes nothing.
-use mathlib.Core.Path.{sym, ap, _∙_}
-use Prim.Native.Nat.{_+_, _/_, _^_}
-use native.Mathlib.Nat.{mod-lt}
+-- `wnaf::take` meets its contract: a largest digit under half the span is that of the whole width. Assumes nothing.
+use mathlib.Core.Path.{_≡_}
+use Prim.Native.Nat.{_-_}
 use native.Mathlib.Omega.{arith}
-use borrow.Author.Needs.{needs, sfits-of}
-use lib.Pow.{shr-le}
-use mir.Facts.{toZ-ofZ}
+use borrow.Author.Needs.{needs}
+use Rattle.laws.proofs.Powers.{pow-pred}
 use Rattle.wnaf.proofs.take.Statement.{statement}
 use Rattle.wnaf.proofs.take.Tie as tie
 
-add-raised : tie.Need-add-raised
-add-raised c = record { fits = omega (arith, shr-le (c .args .x) (c .args .zeros)) }
+whole : (c : tie.Then1) → c .before .args .half - 1 ≡ c .before .args .largest
+whole c = let s = c .before in omega (arith, c .if1 .taken, s .pre .1 .0, s .pre .0 .between .least)
 
-lowered-requires : tie.Need-lowered-requires
-lowered-requires c κs = (c .pre .1 .1, mod-lt (c .args .x / 2 ^ c .args .zeros + c .args .half) (omega arith), omega arith)
+take-whole-requires : tie.Need-take-whole-requires
+take-whole-requires c κs =
+    let s = c .before in
+    (rw (whole c) (s .pre .0), (omega (arith, s .pre .1 .0, pow-pred (s .args .w) (omega (arith, s .pre .0 .between .wide))), s .pre .1 .1, s .pre .1 .2))
 
 returns : tie.Need-returns
-returns c =
-    let s = c .before .before in
-    let a = s .args in
-    record {
-      digit-is = toZ-ofZ (sfits-of (c .before .lowered .ok)) ∙ c .before .lowered .ensures;
-      carry-is = c .carried .ensures;
-      rest-is = ap (λ t. (a .x / 2 ^ a .zeros + a .half) / t) (sym (s .pre .0 .1));
-    }
+returns c = rw (whole (c .before)) at (c .take-whole .ensures)
 
 pub take-spec : {M : Type 1} → statement M
-take-spec = tie.close (tie.spec (λ c. search needs) add-raised (λ c. search needs) (λ c. search needs) lowered-requires (λ c κs. search needs) (λ c. search needs) returns)
+take-spec = tie.close (tie.spec take-whole-requires returns (λ c κs. search needs) (λ c. search needs))

@@ -15,10 +15,10 @@ use Rattle.wnaf.proofs.write.Statement.{statement}
 use Rattle.wnaf.proofs.write.Tie as tie
 
 abbrev Inv-loop : tie.InvT-loop
-Inv-loop w order s digits₀ marks₀ carry₀ top₀ i₀ digits marks carry top i = Standing w (orderOf order) s i carry top digits marks
+Inv-loop w largest order s digits₀ marks₀ carry₀ top₀ i₀ digits marks carry top i = Standing w largest (orderOf order) s i carry top digits marks
 
 abbrev μ-loop : tie.MeasureT-loop
-μ-loop w order s digits₀ marks₀ carry₀ top₀ i₀ digits marks carry top i = length digits - i
+μ-loop w largest order s digits₀ marks₀ carry₀ top₀ i₀ digits marks carry top i = length digits - i
 
 -- what the function was called with
 abbrev start : tie.At-loop Inv-loop μ-loop → tie.Start Inv-loop μ-loop
@@ -33,7 +33,7 @@ loop-holds c =
     let a = c .before .before .before .before .before .before .before .before .args in
     let m : length (now (a .digits)) ≡ bitCount (now (a .s)) + 1 = omega arith in
     record {
-      reached = reach-none (a .w) (bitCount (now (a .s)) + 1) (number (orderOf (a .order)) (now (a .s))) (z .0 ∙ ap (λ t. replicate t (pos 0)) m);
+      reached = reach-none (a .w) (a .largest) (bitCount (now (a .s)) + 1) (number (orderOf (a .order)) (now (a .s))) (z .0 ∙ ap (λ t. replicate t (pos 0)) m);
       marks-are = z .1;
       small = omega arith;
       top-is = sym (top-zeros (length (now (a .digits))) (z .0));

@@ -1,22 +1,13 @@
--- `trial::checking::answer` meets its contract: the part that is lent is as long as the bytes that are given. Assumes nothing.
+-- `trial::checking::answer` meets its contract: the set stands before what follows it. Assumes nothing.
 use native.Mathlib.Omega.{arith}
-use lib.ListN.{length-take, length-drop}
 use borrow.Author.Needs.{needs}
 use Rattle.trial.proofs.checking.answer.Statement.{statement}
 use Rattle.trial.proofs.checking.answer.Tie as tie
 
-cast-bytes : tie.Need-cast-bytes
-cast-bytes c = omega (arith, c .shared-slice-known2 .given 2)
-
-slice-aggregate-made : tie.Need-slice-aggregate-made
-slice-aggregate-made c = simp length-take (omega arith)
-
-made-requires : tie.Need-made-requires
-made-requires c κs = simp (length-take, length-drop) (omega arith)
+set-requires : tie.Need-set-requires
+set-requires c κs =
+    let a = c .before .after .ensures in
+    (omega arith, omega (arith, a, c .if1 .left), λ e. omega (arith, a .2 e, c .if1 .left))
 
 pub answer-spec : {M : Type 1} → statement M
-answer-spec =
-    tie.close
-    (tie.spec (λ c. search needs) (λ c. search needs) cast-bytes (λ c. search needs) (λ c. search needs) (λ c. search needs) (λ c. search needs) (λ c. search needs)
-    (λ c κs. search needs) (λ c. search needs) (λ c. search needs) (λ c. search needs) (λ c. search needs) (λ c. search needs) (λ c. search needs) (λ c. search needs)
-    (λ c. search needs) slice-aggregate-made made-requires (λ c. search needs) (λ c. search needs))
+answer-spec = tie.close (tie.spec (λ c κs. search needs) (λ c. search needs) set-requires (λ c. search needs) (λ c. search needs) (λ c. search needs) (λ c κs. search needs) (λ c. search needs) (λ c. search needs))
