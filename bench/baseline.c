@@ -637,6 +637,52 @@ sarvundole_searched baseline_search(uint32_t number, uint8_t width) {
     return r;
 }
 
+/* ---- choose: the weight and the top of the wNAF of each width that fits, counted as wnaf puts its digits. */
+static unsigned total(uint8_t order, const uint8_t *s, size_t bytes, unsigned w) {
+    const uint64_t half = (uint64_t)1 << (w - 1);
+    const size_t places = 8 * bytes + 1;
+    unsigned carry = 0, weight = 0, top = 0, multiples = 1u << (w - 2);
+    for (size_t i = 0; i < places;) {
+        size_t last = smaller(i + STRETCH - w, places - 1);
+        uint64_t x = stretch(order, s, bytes, i) + carry;
+        while (x) {
+            unsigned zeros = (unsigned)__builtin_ctzll(x);
+            size_t at = i + zeros;
+            if (at > last) break;
+            uint64_t raised = (x >> zeros) + half;
+            carry = (raised & (2 * half - 1)) < half;
+            x = raised >> w;
+            weight++;
+            top = (unsigned)at + 1;
+            i = at + w;
+        }
+        if (i <= last) i = last + 1;
+    }
+    return (weight ? top - 1 + weight - 1 : 0) + (multiples < 2 ? 0 : multiples);
+}
+
+sarvundole_chosen baseline_choose(uint8_t order, const uint8_t *scalar, size_t bytes, uint32_t entries) {
+    sarvundole_chosen r = {0, 0, 0};
+    if (bytes > SARVUNDOLE_MOST_BYTES) r.refusal = 3;
+    else if (!entries) r.refusal = 23;
+    else
+        for (unsigned w = 2; w <= 8 && 1u << (w - 2) <= entries; w++) {
+            unsigned steps = total(order, scalar, bytes, w);
+            if (w == 2 || steps < r.total) r.width = (uint8_t)w, r.total = (uint16_t)steps;
+        }
+    return r;
+}
+
+/* ---- lighter: both strings checked */
+sarvundole_picked baseline_lighter(uint8_t width, uint8_t order, const uint8_t *scalar, size_t bytes, const int8_t *first, size_t first_places, const int8_t *second,
+                                   size_t second_places) {
+    sarvundole_tally a = check(sarvundole_whole(width), order, scalar, bytes, first, first_places), b;
+    if (a.refusal) return (sarvundole_picked){a.refusal, 0, 0};
+    b = check(sarvundole_whole(width), order, scalar, bytes, second, second_places);
+    if (b.refusal) return (sarvundole_picked){b.refusal, 0, 0};
+    return b.weight < a.weight ? (sarvundole_picked){0, 1, b.top} : (sarvundole_picked){0, 0, a.top};
+}
+
 /* ---- frames */
 enum { OPENING = 0xA2, NO_HEX = 16 };
 

@@ -20,6 +20,9 @@ sarvundole_reader baseline_reader_start(uint8_t width, uint8_t order, const uint
 sarvundole_stepped baseline_reader_next(const uint8_t *scalar, size_t bytes, sarvundole_reader reader);
 sarvundole_reading baseline_read_at(uint8_t width, uint8_t order, const uint8_t *scalar, size_t bytes, uint16_t calls);
 sarvundole_searched baseline_search(uint32_t number, uint8_t width);
+sarvundole_chosen baseline_choose(uint8_t order, const uint8_t *scalar, size_t bytes, uint32_t entries);
+sarvundole_picked baseline_lighter(uint8_t width, uint8_t order, const uint8_t *scalar, size_t bytes, const int8_t *first, size_t first_places, const int8_t *second,
+                                   size_t second_places);
 sarvundole_framed baseline_write(uint8_t version, const int8_t *digits, size_t places, uint8_t *line, size_t room);
 sarvundole_parsed baseline_read(const uint8_t *line, size_t characters, int8_t *digits, size_t places);
 

@@ -20,10 +20,10 @@ typedef struct {
     uint8_t form, order;
     uint8_t scalar[80], other[80], group[80];
     size_t bytes, other_bytes, group_bytes, places, other_places, words, room, marks_room, multiples_room, line_room, characters;
-    uint32_t modulus, base, second;
+    uint32_t modulus, base, second, entries;
     uint16_t calls;
     sarvundole_reader reader;
-    int8_t digits[ROOM_PLACES];
+    int8_t digits[ROOM_PLACES], rival[ROOM_PLACES];
     uint16_t tape[ROOM_WORDS], joint[ROOM_WORDS];
     size_t joint_words;
     uint8_t line[ROOM_LINE];
@@ -123,6 +123,19 @@ static void search(const input *in, output *out, int library) {
     out->fields[0] = r.refusal, out->fields[1] = r.weight;
 }
 
+/* As many entries as the width has multiples. */
+static void choose(const input *in, output *out, int library) {
+    sarvundole_chosen c = (library ? sarvundole_choose : baseline_choose)(in->order, in->scalar, in->bytes, in->entries);
+    out->fields[0] = c.refusal, out->fields[1] = c.width, out->fields[2] = c.total;
+}
+
+/* The string, and the wNAF of width 2. */
+static void lighter(const input *in, output *out, int library) {
+    sarvundole_picked p = (library ? sarvundole_lighter : baseline_lighter)(in->set.width, in->order, in->scalar, in->bytes, in->digits, in->places, in->rival,
+                                                                            8 * in->bytes + 1);
+    out->fields[0] = p.refusal, out->fields[1] = p.which, out->fields[2] = p.places;
+}
+
 static void write_as(const input *in, output *out, int library, uint8_t version) {
     sarvundole_framed f = (library ? sarvundole_write : baseline_write)(version, in->digits, in->places, out->line, in->line_room);
     out->fields[0] = f.refusal, out->fields[1] = f.length;
@@ -162,6 +175,8 @@ static void accepted(input *in, uint8_t form, sarvundole_set set, uint8_t order,
     in->places = 8 * bytes + 1, in->room = ROOM_WORDS, in->marks_room = SARVUNDOLE_MARK_WORDS, in->multiples_room = ROOM_MULTIPLES;
     in->modulus = any32() | 1, in->base = any32(), in->calls = (uint16_t)(8 * bytes);
     baseline_recode(form, set, order, in->scalar, bytes, in->digits, in->places, marks, SARVUNDOLE_MARK_WORDS);
+    baseline_recode(SARVUNDOLE_WNAF, sarvundole_whole(2), order, in->scalar, bytes, in->rival, in->places, marks, SARVUNDOLE_MARK_WORDS);
+    in->entries = 1u << (set.width - 2);
     in->words = baseline_tape(set, in->digits, in->places, in->tape, ROOM_WORDS).words;
     in->line_room = ROOM_LINE;
     for (size_t i = 0; i < bytes; i++) in->other[i] = (uint8_t)chance(256);
@@ -199,6 +214,7 @@ static void any(input *in) {
     in->reader = (sarvundole_reader){(uint16_t)chance(600), (uint16_t)chance(600), (uint16_t)chance(600), (uint8_t)chance(11), (int8_t)chance(256), 0, (uint8_t)chance(3)};
     if (!chance(8)) in->reader.place = (uint16_t)chance(65536), in->reader.floor = (uint16_t)chance(65536), in->reader.refusal = (uint8_t)chance(256);
     if (!chance(2)) near(in);
+    if (chance(2)) in->entries = chance(2) ? chance(70) : any32();
     switch (chance(20)) {
     case 0: in->form = (uint8_t)chance(256); break;
     case 1: in->set.width = (uint8_t)chance(11); break;
@@ -346,6 +362,8 @@ int main(int words, char **given) {
         {"read, version 1", read_1, 2, 0, {2, 4, 5, 6, 8}},
         {"read, version 2", read_2, 2, 0, {2, 4, 5, 6, 8}},
         {"search", search, 2, 0, {2, 3}},
+        {"choose", choose, 2, 0, {4, 8}},
+        {"lighter", lighter, 2, 0, {4, 8}},
         {"recode_below MOF", recode_below, 1, 0, {2}},
         {"recode_below wNAF", recode_below, 2, 0, {4, 8}},
         {"recode_below wMOF", recode_below, 3, 0, {4, 8}},

@@ -50,7 +50,7 @@ enum sarvundole_form {
     SARVUNDOLE_CLOSEST_SMALLER = 5 /* the same, on a tie the one of smaller absolute value */
 };
 
-/* The refusals. 6 was struck, since n + 1 places always suffice, and is not used again; 17 and 23 no call gives. */
+/* The refusals. 6 was struck, since n + 1 places always suffice, and is not used again; 17 no call gives. */
 enum sarvundole_refusal {
     SARVUNDOLE_ACCEPTED = 0,
     SARVUNDOLE_BAD_FORM = 1,         /* form is not 1..5 */
@@ -73,6 +73,7 @@ enum sarvundole_refusal {
     SARVUNDOLE_NOT_BELOW = 20,       /* scalar not below the group order, as numbers */
     SARVUNDOLE_UNFIT_FRAME = 21,     /* places not rising, a zero digit, a place not below the count, or weight or top that does not fit */
     SARVUNDOLE_BAD_SET = 22,         /* directly after 2: no digit set has this width and largest digit, or not the whole width's where the form is not 2 */
+    SARVUNDOLE_NO_WIDTH_FITS = 23,   /* no width fits: entries 0 */
     SARVUNDOLE_SHORT_LINE = 24       /* line buffer too short */
 };
 
@@ -100,6 +101,7 @@ static inline const char *sarvundole_refusal_words(unsigned refusal) {
     case SARVUNDOLE_NOT_BELOW: return "the scalar is not below the group order";
     case SARVUNDOLE_UNFIT_FRAME: return "the parts of the frame do not fit together";
     case SARVUNDOLE_BAD_SET: return "no digit set has this width and largest digit, or the form needs a whole width";
+    case SARVUNDOLE_NO_WIDTH_FITS: return "no width fits into no entries";
     case SARVUNDOLE_SHORT_LINE: return "the line buffer is too short";
     default: return "no refusal of this library";
     }
@@ -227,6 +229,21 @@ typedef struct sarvundole_parsed {
     uint16_t places;
 } sarvundole_parsed;
 
+/* What choose answers: a whole width, and its total. */
+typedef struct sarvundole_chosen {
+    uint8_t refusal;
+    uint8_t width;
+    uint16_t total;
+} sarvundole_chosen;
+
+/* What lighter answers: `which` is 0 for the first string and 1 for the second, and the part is its `places` lowest places. In a refusal both are 0: an empty part of
+ * the first. */
+typedef struct sarvundole_picked {
+    uint8_t refusal;
+    uint8_t which;
+    uint16_t places;
+} sarvundole_picked;
+
 /* Recodes any scalar, whatever its group: for tests. A check number is one only below its group's order: sarvundole_recode_below. Writes its n + 1 digits, and marks nonzero places in nine 64-bit words: bit j mod 64 of word j / 64 is set exactly
  * when place j is nonzero. Lent: the scalar; for writing, at least n + 1 places and 9 words. Form 2 in a set: at an
  * odd remaining number its signed residue modulo 2^(w+1) if that is of the set, else the one modulo 2^w. Refusals, tried in this order: 1, 2, 22, 3, 4, 5. */
@@ -290,6 +307,17 @@ sarvundole_reading sarvundole_read_at(uint8_t width, uint8_t order, const uint8_
 
 /* Answers the least weight of any string of nine places that is worth a number up to 127, at width 2 or 3. Refusals: 2, 3. */
 sarvundole_searched sarvundole_search(uint32_t number, uint8_t width);
+
+/* Chooses the width for a scalar and a number of entries that the chip can hold: of the whole widths 2 to 8 whose 2^(w-2) multiples fit the one whose total is least, the
+ * smaller on a tie. The total is the doublings and additions of the tape of the scalar's wNAF, and both costs of the multiples. No memory is needed. Lent: the scalar.
+ * Refusals: 3, 23. */
+sarvundole_chosen sarvundole_choose(uint8_t order, const uint8_t *scalar, size_t bytes, uint32_t entries);
+
+/* The lighter of two strings that were made for one scalar, the first on a tie, cut above its highest nonzero place: which string, and how many of its places. Nothing
+ * is copied or written. Both strings are checked first, as check does. Lent: the scalar and both strings, which may be one. Refusals, in this order: 2, 3, then 7, 8, 9 of the
+ * first string, then 7, 8, 9 of the second. */
+sarvundole_picked sarvundole_lighter(uint8_t width, uint8_t order, const uint8_t *scalar, size_t bytes, const int8_t *first, size_t first_places,
+                                     const int8_t *second, size_t second_places);
 
 /* Writes a string as a line of hexadecimal pairs in capitals, without a line feed and without a null character. Version 1 is 00, weight,
  * top (2 bytes each), then the digits, place 0 first, a byte each; version 2 is A2, weight, top, the place count (2 bytes each), then for

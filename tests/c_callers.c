@@ -29,7 +29,7 @@ typedef struct {
     int reading;
 } memory;
 
-static memory scalars, others, groups, strings, tapes, lines, digits, seconds, marks, words, multiples, written;
+static memory scalars, others, groups, strings, rivals, tapes, lines, digits, seconds, marks, words, multiples, written;
 
 static void protect(const memory *m, int how) {
     if (mprotect(m->start, page, how)) abort();
@@ -258,7 +258,7 @@ static void worded(void) {
     const char *const none = sarvundole_refusal_words(6);
     for (unsigned a = 0; a < 300; a++) {
         const char *words = sarvundole_refusal_words(a);
-        const int given = (a != 6 && a <= SARVUNDOLE_MALFORMED) || a == SARVUNDOLE_UNEQUAL_SCALARS || a == SARVUNDOLE_BAD_GROUP || a == SARVUNDOLE_NOT_BELOW || a == SARVUNDOLE_UNFIT_FRAME || a == SARVUNDOLE_BAD_SET || a == SARVUNDOLE_SHORT_LINE;
+        const int given = (a != 6 && a <= SARVUNDOLE_MALFORMED) || a == SARVUNDOLE_UNEQUAL_SCALARS || a == SARVUNDOLE_BAD_GROUP || a == SARVUNDOLE_NOT_BELOW || a == SARVUNDOLE_UNFIT_FRAME || a == SARVUNDOLE_BAD_SET || a == SARVUNDOLE_NO_WIDTH_FITS || a == SARVUNDOLE_SHORT_LINE;
         if ((strcmp(words, none) == 0) == given) refuse("a refusal has no words, or a number that is none has");
         for (unsigned b = 0; b < a && given; b++)
             if (strcmp(words, sarvundole_refusal_words(b)) == 0) refuse("two refusals have the same words");
@@ -270,6 +270,34 @@ static void search(void) {
     uint8_t width = (uint8_t)take(1);
     sarvundole_searched s = sarvundole_search(take(4), width);
     put(s.refusal, 1), put(s.weight, 1);
+}
+
+static void choose(int at_end) {
+    uint32_t entries = take(4);
+    size_t bytes = left;
+    sarvundole_chosen c = sarvundole_choose(order, lend(&scalars, bytes, at_end, frame), bytes, entries);
+    put(c.refusal, 1), put(c.width, 1), put(c.total, 2);
+    given_back(&scalars);
+}
+
+/* The part is read from its string. A string lent twice is the lighter as the first. */
+static void lighter(int at_end) {
+    uint8_t width = (uint8_t)take(1);
+    size_t bytes = take(1);
+    const uint8_t *s = lend(&scalars, bytes, at_end, frame);
+    frame += bytes, left -= bytes;
+    size_t first = take(2), second = left - first;
+    const int8_t *a = lend(&strings, first, at_end, frame), *b = lend(&rivals, second, at_end, frame + first);
+    sarvundole_picked p = sarvundole_lighter(width, order, s, bytes, a, first, b, second);
+    sarvundole_picked same = sarvundole_lighter(width, order, s, bytes, a, first, a, first);
+    if (p.which > 1 || (p.refusal && (p.which || p.places))) refuse("a refusal gives a part that is not an empty one of the first");
+    if (p.places > (p.which ? second : first)) refuse("a part is longer than its string");
+    if (p.refusal == 0 && p.which == 0 && (same.refusal || same.which || same.places != p.places)) refuse("a string beside itself is not the lighter as the first");
+    put(p.refusal, 1), put(p.places, 2);
+    for (size_t i = 0; i < p.places; i++) put((uint8_t)(p.which ? b : a)[i], 1);
+    given_back(&scalars);
+    given_back(&strings);
+    given_back(&rivals);
 }
 
 static void write_line(int at_end) {
@@ -321,6 +349,8 @@ static void call(const uint8_t *data, size_t bytes, int at_end) {
     case 11: recode_below(at_end); break;
     case 14: write_line(at_end); break;
     case 15: read_line(at_end); break;
+    case 16: choose(at_end); break;
+    case 17: lighter(at_end); break;
     default: abort();
     }
 }
@@ -329,7 +359,7 @@ int main(void) {
     static char line[MOST_LINE];
     static uint8_t data[MOST_LINE / 2], before[MOST_ANSWER];
     page = (size_t)sysconf(_SC_PAGESIZE);
-    memory *const all[] = {&scalars, &others, &groups, &strings, &tapes, &lines, &digits, &seconds, &marks, &words, &multiples, &written};
+    memory *const all[] = {&scalars, &others, &groups, &strings, &rivals, &tapes, &lines, &digits, &seconds, &marks, &words, &multiples, &written};
     for (size_t i = 0; i < sizeof all / sizeof *all; i++) make(all[i]);
     made_up_all();
     worded();

@@ -104,6 +104,14 @@ def read(lent, line):
     return hexadecimal(bytes([15]) + lent.to_bytes(2, "big") + line)
 
 
+def choose(entries, scalar):
+    return hexadecimal(bytes([16]) + entries.to_bytes(4, "big") + scalar)
+
+
+def lighter(width, scalar, first, other):
+    return hexadecimal(bytes([17, width, len(scalar)]) + scalar + len(first).to_bytes(2, "big") + second.big_endian(first + other, 1))
+
+
 # ---- strings that a document prints, highest place first
 KNOWN = [  # document 01, P1 to P10: scalar, width, forms, nonzero digits by place
     (b"\x0d", 2, [MOF], {4: 1, 2: -1, 1: 1, 0: -1}),
@@ -876,6 +884,62 @@ def read_edges():
         yield read(600, one(bytes([0]) + second.big_endian([0, 0], 2) + bytes(places)))
 
 
+# Numbers of entries about each that a width needs.
+ENTRIES = [0, 1, 2, 3, 4, 5, 7, 8, 9, 15, 16, 17, 31, 32, 33, 63, 64, 65, 255, 256, 65536, 2**32 - 1]
+
+
+def choose_edges():
+    """Every scalar of one byte with every number of entries that tells widths apart; zeros; scalars at which another width is best; 66 and 67 bytes; both orders."""
+    for n in range(256):
+        for entries in range(71):
+            yield choose(entries, bytes([n]))
+    for entries in ENTRIES:
+        for scalar in (b"", bytes(1), bytes(66), b"\x01", b"\x01\x5d", b"\x5d\x01", bytes(range(1, 9)), b"\xff" * 16, bytes(range(100, 132)), b"\xa5" * 66, b"\xff" * 66, bytes(67), b"\xff" * 80):
+            yield choose(entries, scalar)
+            yield lowest_first(choose(entries, scalar))
+
+
+def lighter_edges():
+    """The forms of one number held against each other, each first once; ties; zeros above the top; the empty string; strings of every length up to the limit."""
+    for scalar, width, _, digits in printed_strings():
+        for form in (WNAF, WMOF, CLOSEST, SMALLER):
+            made = second.form_digits(form, width, scalar)
+            yield lighter(width, scalar, digits, made)
+            yield lighter(width, scalar, made, digits)
+    thirteen = [[1, 0, -1, 0, 1], [-1, 1, -1, 0, 1], [1, 0, 1, 1], [1, 0, 1, 1, 0, 0, 0, 0, 0], [-1, -1, 0, 0, 1], [-1, 1, 1, -1, 1]]
+    for first, other in itertools.product(thirteen, repeat=2):
+        yield lighter(2, b"\x0d", first, other)
+        yield lowest_first(lighter(2, b"\x0d\x00", first, other))
+        yield lowest_first(lighter(2, b"\x00\x0d", first, other))
+    for scalar in (b"", bytes(1), bytes(66)):
+        for first, other in itertools.product(([], [0], [0] * 9, [1, 1, -1, -1], [1]), repeat=2):
+            yield lighter(3, scalar, first, other)
+    for places in (528, 529, 530, 600):
+        for first, other in (([1], on_places(places, [1])), (on_places(places, [-1, 1]), [1]), (on_places(places, [-1, 1]), on_places(places, [1]))):
+            yield lighter(2, b"\x01", first, other)
+            yield lighter(2, b"\x01", other, first)
+    long = [0] * 528 + [1]
+    for first, other in ((long, [0] * 527 + [-1, 1]), ([0] * 527 + [-1, 1], [0] * 526 + [-1, -1, 1]), ([0] * 526 + [-1, -1, 1], [0] * 526 + [1, 1])):
+        yield lighter(2, b"\xc0" + bytes(65), first, other)
+    for digit in range(-128, 128):
+        yield lighter(5, b"\x15", [digit], [5, 0, 0, 0, 1])
+        yield lighter(5, b"\x15", [5, 0, 0, 0, 1], [5, 0, 0, 0, digit])
+
+
+def lighter_faults():
+    """Every set of faults: of width and scalar, of the first string and of the second."""
+    for common, of_first, of_other in itertools.product(subsets((2, 3)), subsets((7, 8, 9)), subsets((7, 8, 9))):
+        strings = []
+        for faults in (of_first, of_other):
+            digits = [0, -3, 0, 0, 3]
+            if 8 in faults:
+                digits[2:4] = [4, -2]
+            if 9 in faults:
+                digits[0] = 1
+            strings.append(on_places(MOST_PLACES + 1, digits) if 7 in faults else digits)
+        yield lighter(9 if 2 in common else 3, (bytes(MOST_BYTES) if 3 in common else b"") + b"\x2a", *strings)
+
+
 def trial_malformed():
     good = [
         recode_fitting(WNAF, 3, b"\x2a"),
@@ -890,6 +954,8 @@ def trial_malformed():
         below_fitting(WNAF, 3, b"\x2b", b"\x2a"),
         write(2, 40, [0, -3, 0, 0, 3]),
         read(6, second.frame_of(2, [0, -3, 0, 0, 3])),
+        choose(4, b"\x2a"),
+        lighter(3, b"\x2a", [0, -3, 0, 0, 3], [0, -3, 0, 0, 1, 1]),
     ]
     for line in good:
         yield line
@@ -934,6 +1000,10 @@ def at_the_limits():
         yield write(2, 50, [1] * (600 + more))
         yield read(600 + more, b"01")
         yield read(1, b"0" * (3300 + more))
+        yield choose(4, bytes(80 + more))
+        yield lighter(2, b"\x01", [1] * (600 + more), [1])
+        yield lighter(2, b"\x01", [1], [1] * (600 + more))
+        yield lighter(2, bytes(80 + more), [1], [1])
     yield joint(600, 600, 1100, b"\xdb" * 66, b"\x6d" * 66)
     yield hexadecimal(bytes([9, 0, 9, 0, 9, 0, 20, 2, 1]))
     yield recode(WNAF, 3, 65535, 9, b"\x2a")
@@ -1074,17 +1144,39 @@ def any_search(rng):
     return search(rng.choice([1, 2, 2, 3, 3, 4]), number)
 
 
+def any_choose(rng):
+    entries = rng.choice([rng.choice(ENTRIES), rng.randrange(70), 2 ** rng.randrange(32)])
+    return choose(entries, scalar_like(rng, some_length(rng)))
+
+
+def any_lighter(rng):
+    """Two strings of one number, now and then one of another, one spoiled, or one with places more or fewer."""
+    width = rng.choice(WIDTHS)
+    scalar = scalar_like(rng, min(some_length(rng), 66))
+    strings = [second.form_digits(rng.choice([WNAF, WMOF, CLOSEST, SMALLER]), rng.choice([width, width, LEAST_WIDTH]), scalar) for _ in range(2)]
+    kind, k = rng.randrange(10), rng.randrange(2)
+    if kind == 0:
+        strings[k][rng.randrange(len(strings[k]))] = rng.randint(-128, 127)
+    elif kind == 1:
+        strings[k] = strings[k][: second.top(strings[k])]
+    elif kind == 2:
+        strings[k] = on_places(rng.randrange(len(strings[k]), 600), strings[k])
+    elif kind == 3:
+        width = rng.choice([1, 2, 8, 9])
+    return lighter(width, scalar, *strings)
+
+
 def any_lowest_first(rng, line):
     """The call on bytes that come lowest first: the same bytes, or for a check and beside a group order mostly the same number."""
     call = int(line[:2], 16)
-    if call in (2, 3) and rng.random() < 0.8:
+    if call in (2, 3, 17) and rng.random() < 0.8:
         end = 6 + 2 * int(line[4:6], 16)
         scalar = bytes.fromhex(line[6:end].decode("ascii"))
         line = line[:6] + hexadecimal(scalar[::-1]) + line[end:]
     if call == 11 and rng.random() < 0.8:
         start = 14 + 2 * int(line[12:14], 16)
         line = line[:start] + hexadecimal(bytes.fromhex(line[start:].decode("ascii"))[::-1])
-    return lowest_first(line) if call in (1, 2, 3, 6, 9, 11) or rng.random() < 0.1 else line
+    return lowest_first(line) if call in (1, 2, 3, 6, 9, 11, 16, 17) or rng.random() < 0.1 else line
 
 
 def frame_string(rng):
@@ -1194,7 +1286,7 @@ def salvage_input():
 
 def some_trial_line(rng):
     """A line for the trial program, mostly good."""
-    line = rng.choice([any_recode, any_below, any_check, any_check, any_tape, any_run, any_joint, any_joint, any_run_joint, any_reader, any_search, any_write, any_read, any_read, any_in_set, any_in_set])(rng)
+    line = rng.choice([any_recode, any_below, any_check, any_check, any_tape, any_run, any_joint, any_joint, any_run_joint, any_reader, any_search, any_write, any_read, any_read, any_in_set, any_in_set, any_choose, any_lighter])(rng)
     if rng.randrange(3) == 0:
         line = any_lowest_first(rng, line)
     kind = rng.randrange(40)
@@ -1229,6 +1321,8 @@ def trial_input():
         *cross_check(),
         *write_edges(),
         *read_edges(),
+        *choose_edges(),
+        *lighter_edges(),
         *set_edges(),
         *set_faults(),
         *recode_faults(),
@@ -1239,6 +1333,7 @@ def trial_input():
         *joint_faults(),
         *run_joint_faults(),
         *frame_faults(),
+        *lighter_faults(),
         *small_faults(),
         *trial_malformed(),
     ]

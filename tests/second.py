@@ -39,19 +39,22 @@ capitals: every field, then every lent buffer whole. Numbers of more than one by
     0E write          version 1, characters lent 2, digits                  refusal 1, length 2, the line's buffer
     0F read           places lent 2, the line's characters                  refusal 1, stated number 1, weight 2, top 2,
                                                                             places 2, digits
+    10 choose         entries 4, scalar                                     refusal 1, width 1, total 2
+    11 lighter        width 1, scalar length 1, scalar, first's length 2,   refusal 1, places of the part 2, the part
+                      first, second
 
 A digit is one byte in two's complement, a mark word eight bytes, a tape word two, a multiple four. Before the call
 every lent digit is 5A, mark word A5A5A5A5A5A5A5A5, tape word EEEE, multiple DEADBEEF, character of a line 2E. What has
 no stated length runs to the end of the line. A line ends at a line feed; a last line without one counts if not empty.
 
-With 80 added to the call, 81, 82, 83, 86, 89 and 8B, a scalar's bytes come lowest first; else they come highest first.
+With 80 added to the call, 81, 82, 83, 86, 89, 8B, 90 and 91, a scalar's bytes come lowest first; else they come highest first.
 The group order's come highest first in either.
 
 With 40 added to the call, 41 to 45, 4B, C1, C2, C3 and CB, the largest digit (1) of a digit set follows the width; else
 the set is the whole width's.
 
 FF answers a line that is no such frame: empty, of odd length, with another character, of another call, without a
-part of a fixed field or of the stated scalar, with half a tape word at its end, with anything after a search, or with
+part of a fixed field, of the stated scalar or of the stated first string, with half a tape word at its end, with anything after a search, or with
 a version that is not 1 or 2. FF
 also answers a line that asks for more than the program has: over 600 digits or places, 12 mark words, 1,100 tape
 words (given or lent), 80 multiples, 80 bytes of a scalar or of a group order, 700 reader calls, 3,300 characters of a line (given or lent). So
@@ -584,6 +587,37 @@ def search(n, width):
     return 0, least_weight(n, width, SEARCH_PLACES)
 
 
+# ---- the choice of a width, and the lighter of two strings
+@functools.lru_cache(maxsize=2**16)
+def total(n, bits, width):
+    """The words of the wNAF's tape that double or add, and what the multiples cost."""
+    steps = [x for x in tape_of(wnaf(n, bits, width)) if code_of(x) in (DOUBLE, ADD, SUBTRACT)]
+    return len(steps) + sum(cost(entries(width)))
+
+
+def choose(scalar, room, order=HIGHEST_FIRST):
+    """refusal, width, total"""
+    if len(scalar) > MOST_BYTES:
+        return 3, 0, 0
+    allowed = [width for width in range(LEAST_WIDTH, MOST_WIDTH + 1) if entries(width) <= room]
+    if not allowed:
+        return 23, 0, 0
+    totals = {width: total(number(scalar, order), 8 * len(scalar), width) for width in allowed}
+    least = min(totals.values())
+    return 0, min(width for width in allowed if totals[width] == least), least
+
+
+def lighter(width, scalar, first, other, order=HIGHEST_FIRST):
+    """refusal, which of the two; the part"""
+    for digits in (first, other):
+        refusal = check(width, scalar, digits, order=order)[0]
+        if refusal != 0:
+            return (refusal, 0), []
+    which = 1 if weight(other) < weight(first) else 0
+    picked = (first, other)[which]
+    return (0, which), picked[: top(picked)]
+
+
 # ---- lines of hexadecimal
 HEXADECIMAL = b"0123456789ABCDEFabcdef"
 
@@ -842,9 +876,23 @@ def trial_below(frame):
     return trial_recode(frame, below=True)
 
 
+def trial_choose(frame):
+    room = frame.number(4)
+    refusal, width, steps = choose(frame.remaining(TRIAL_BYTES), room, frame.order)
+    return bytes([refusal, width]) + big_endian([steps], 2)
+
+
+def trial_lighter(frame):
+    width = frame.number(1)
+    scalar = frame.take(frame.number(1, TRIAL_BYTES))
+    first = signed(frame.take(frame.number(2, TRIAL_PLACES)))
+    (refusal, _), part = lighter(width, scalar, first, signed(frame.remaining(TRIAL_PLACES)), frame.order)
+    return bytes([refusal]) + big_endian([len(part)], 2) + big_endian(part, 1)
+
+
 TRIALS = dict(enumerate([trial_recode, trial_check, trial_nonadjacent, trial_tape, trial_run, trial_reader, trial_search], 1))
-TRIALS |= {0x09: trial_joint, 0x0A: trial_run_joint, 0x0B: trial_below, 0x0E: trial_write, 0x0F: trial_read}
-ON_A_SCALAR = [trial_recode, trial_check, trial_nonadjacent, trial_reader, trial_joint, trial_below]
+TRIALS |= {0x09: trial_joint, 0x0A: trial_run_joint, 0x0B: trial_below, 0x0E: trial_write, 0x0F: trial_read, 0x10: trial_choose, 0x11: trial_lighter}
+ON_A_SCALAR = [trial_recode, trial_check, trial_nonadjacent, trial_reader, trial_joint, trial_below, trial_choose, trial_lighter]
 IN_A_SET = [trial_recode, trial_check, trial_nonadjacent, trial_tape, trial_run, trial_below]
 LOWEST = 0x80  # added to the call: a scalar's bytes come lowest first
 BETWEEN = 0x40  # added to the call: the largest digit of a set follows the width
@@ -1011,7 +1059,29 @@ def check_joint():
         assert run_joint(words[:count], 1009, 123, 4567, [0] * 4)[0] == (0, 0, (a * 123 + b * 4567) % 1009, doublings, additions, 2, 0)
 
 
+def check_choices():
+    """A chosen width is allowed, and its total is no more than what a tape and a run at any allowed width report; the lighter string is worth its scalar."""
+    for n in range(0, 65536, 509):
+        scalar = n.to_bytes(2, "big")
+        reported = {}
+        for width in range(LEAST_WIDTH, MOST_WIDTH + 1):
+            (_, _, count, doublings, additions), words = tape(width, wnaf(n, 16, width), [0] * MOST_WORDS)
+            ran, _ = run(width, words[:count], 1009, 7, [0] * 64)
+            assert ran[3:5] == (doublings, additions)
+            reported[width] = sum(ran[3:])
+        for room in (1, 2, 3, 4, 7, 8, 16, 32, 63, 64, 1000):
+            _, width, least = choose(scalar, room)
+            fitting = {w: t for w, t in reported.items() if 2 ** (w - 2) <= room}
+            assert fitting[width] == least and all((least, width) <= (t, w) for w, t in fitting.items())
+        strings = [mof(n, 16), wnaf(n, 16, 2)]
+        for first, other in (strings, strings[::-1]):
+            (refusal, which), part = lighter(2, scalar, first, other)
+            assert refusal == 0 and worth(part) == n and weight(part) == min(map(weight, strings)) and (not part or part[-1] != 0)
+            assert which == 0 or weight(other) < weight(first)
+
+
 def own_checks():
+    check_choices()
     check_forms()
     check_nearest()
     check_tapes()

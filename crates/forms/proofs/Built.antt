@@ -45,7 +45,7 @@ zeros-worth zero = refl
 zeros-worth (suc L) = ap (λ x. pos 0 +ℤ pos 2 *ℤ x) (zeros-worth L)
 
 -- and weigh nothing
-zeros-weight : (L : ℕ) → weight (replicate L (pos 0)) ≡ 0
+pub zeros-weight : (L : ℕ) → weight (replicate L (pos 0)) ≡ 0
 unfolding weight nonzero
 zeros-weight zero = refl
 zeros-weight (suc L) = omega (arith, zeros-weight L)

@@ -21,6 +21,8 @@ use Rattle.meaning.specs.Multiples.{makingOf, made, madeFrom, costDoubli
 use Rattle.meaning.specs.Taping.{moves, down, tapeOf}
 use Rattle.meaning.specs.Joint.{column, columnsOf}
 use Rattle.meaning.specs.JointRunning.{pairAt, pairValue, jointEntry, jointEntriesOf}
+use Rattle.meaning.specs.Choosing.{Allowed, totalOf}
+use Rattle.meaning.specs.Lighter.{lighterOf}
 use Rattle.meaning.specs.Reading.{digit, done, readAt}
 use Rattle.meaning.specs.Lines.{linesOf}
 use Rattle.meaning.specs.Hexadecimal.{nibble, allHex, inPairs, bytesOf, written, raised, inCapitals, hasSmall}
@@ -142,6 +144,23 @@ four-cost = refl
 one-cost : costOf 1 ≡ record { doublings = 0; additions = 0 }
 unfolding makingOf costDoublings costAdditions
 one-cost = refl
+
+-- four entries have room for width 4, at which 13 is 1 0 0 0 -3: four doublings, an addition, and a doubling and three additions for the multiples
+four-fit : Allowed 4 4
+four-fit = record { least = lit≤ tt; most = lit≤ tt; fit = lit≤ tt }
+
+its-total : totalOf 4 (negsuc 2 ∷ pos 0 ∷ pos 0 ∷ pos 0 ∷ pos 1 ∷ []) ≡ 9
+unfolding totalOf tapeOf down moves doublings additions makingOf costDoublings costAdditions
+its-total = refl
+
+-- of 1 0 -1 0 1 and 1 0 0 0 -3 the second is the lighter, and of two of one weight the first
+lighter-second : lighterOf thirteen (negsuc 2 ∷ pos 0 ∷ pos 0 ∷ pos 0 ∷ pos 1 ∷ []) ≡ 1
+unfolding thirteen lighterOf weight nonzero
+lighter-second = refl
+
+lighter-first : lighterOf (pos 1 ∷ []) (pos 0 ∷ pos 1 ∷ []) ≡ 0
+unfolding lighterOf weight nonzero
+lighter-first = refl
 
 -- a reader gives a digit a call, then done
 read-on : readAt (pos 1 ∷ negsuc 0 ∷ []) 1 ≡ digit (negsuc 0)

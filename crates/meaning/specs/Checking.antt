@@ -34,9 +34,13 @@ pub record Crowded (w : ℕ) (ds : List ℤ) (p : ℕ) : Type 0 where
   pub here : getD ds p (pos 0) ≢ pos 0
   pub there : getD ds other (pos 0) ≢ pos 0
 
--- after those of the set 3, 7, 8, then 9: string not worth the scalar
+-- those of a string: 7, 8, then 9: string not worth the scalar
+abbrev pub stringRules : (m : ℕ) (o : Order) (s : List ℕ) (ds : List ℤ) → List Rule
+stringRules m o s ds = longString ds ∷ badDigit m ds ∷ plain 9 (worth ds ≢ pos (number o s)) ∷ []
+
+-- after those of the set 3, then those of the string
 abbrev pub worthRules : (m : ℕ) (o : Order) (s : List ℕ) (ds : List ℤ) → List Rule
-worthRules m o s ds = longScalar s ∷ longString ds ∷ badDigit m ds ∷ plain 9 (worth ds ≢ pos (number o s)) ∷ []
+worthRules m o s ds = longScalar s ∷ stringRules m o s ds
 
 abbrev pub checkRules : (w m : ℕ) (o : Order) (s : List ℕ) (ds : List ℤ) → List Rule
 checkRules w m o s ds = setRules w m ++ worthRules m o s ds

@@ -21,6 +21,8 @@ pub mod Joint
 pub mod Joining
 pub mod JointRunning
 pub mod Whole
+pub mod Choosing
+pub mod Lighter
 pub mod Reading
 pub mod Searching
 pub mod Lines

@@ -31,3 +31,5 @@ pub mod JointRun
 pub mod Together
 pub mod JointKnown
 pub mod Shorter
+pub mod Choice
+pub mod Lighter

@@ -6,11 +6,15 @@ ghost use Rattle.meaning.specs.Checking.{checkRules, nonadjacentRules, Check};
 ghost use Rattle.meaning.specs.Taping.{Tape};
 ghost use Rattle.meaning.specs.Running.{Run};
 ghost use Rattle.meaning.specs.Searching.{Search};
+ghost use Rattle.meaning.specs.Choosing.{Choose};
+ghost use Rattle.meaning.specs.Lighter.{Pick};
 ghost use Rattle.meaning.specs.Frames.{Write, Read};
 ghost use Rattle.digits.specs.Tallies.{told};
 ghost use Rattle.tape.specs.Answers.{taped};
 ghost use Rattle.run.specs.Outcomes.{answer};
 ghost use Rattle.search.specs.Answers.{searched};
+ghost use Rattle.choice.specs.Answers.{chosen};
+ghost use Rattle.lighter.specs.Answers.{picked};
 ghost use Rattle.frames.specs.Told.{versionOf, framed, parsed};
 ghost use Rattle.reader.specs.States.{After};
 ghost use Rattle.sarvundole.specs.Runs.{ran};
@@ -18,10 +22,12 @@ ghost use Rattle.sarvundole.specs.Reads.{Tells, Reads};
 ghost use Rattle.sarvundole.specs.Kept.{stateOf, Small};
 ghost use Rattle.sarvundole.specs.Steps.{Steps};
 ghost use Rattle.sarvundole.specs.Versions.{numbered};
+use choice::Chosen;
 use digits::Tally;
 use frames::Framed;
 use frames::Parsed;
 use frames::Version;
+use lighter::Picked;
 use reader::Next;
 use reader::State;
 use run::Cost;
@@ -267,6 +273,28 @@ pub extern "C" fn sarvundole_search(number: u32, width: u8) -> Searched
     ensures { λ r. ⌜ Search number width (searched r) ⌝ }
 {
     search::search(number, width)
+}
+
+// ---- the choice of a width, and the lighter of two strings
+#[no_mangle]
+pub extern "C" fn sarvundole_choose(order: u8, scalar: &[u8], entries: u32) -> Chosen
+    ensures { λ r. ⌜ Choose (orderOf order) (now (scalar .entry)) entries (chosen r) ⌝ }
+{
+    choice::choose(scalar::order_of(order), scalar, entries)
+}
+
+// C has the part by its string and its count of places.
+#[no_mangle]
+pub extern "C" fn sarvundole_lighter(
+    width: u8,
+    order: u8,
+    scalar: &[u8],
+    first: &[i8],
+    second: &[i8],
+) -> Picked
+    ensures { λ r. ⌜ Pick width (orderOf order) (now (scalar .entry)) (now (first .entry)) (now (second .entry)) (picked r) ⌝ }
+{
+    lighter::pick(width, scalar::order_of(order), scalar, first, second)
 }
 
 // ---- frames

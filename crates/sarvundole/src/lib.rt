@@ -2,6 +2,8 @@
 pub mod exported;
 pub mod together;
 
+pub use choice::Chosen;
+pub use choice::choose;
 pub use digits::Tally;
 pub use frames::Framed;
 pub use frames::Parsed;
@@ -13,6 +15,10 @@ pub use joint::Joined;
 pub use joint::joint;
 pub use judge::check;
 pub use judge::check_nonadjacent;
+pub use lighter::Picked;
+pub use lighter::lighter;
+pub use lighter::lighter_refusal;
+pub use lighter::pick;
 pub use reader::Next;
 pub use reader::Reader;
 pub use reader::Reading;

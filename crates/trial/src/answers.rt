@@ -1,6 +1,7 @@
 // The answer to a line: its bytes are read, the call that they name is made, and what it answers is printed.
 use crate::bounding;
 use crate::checking;
+use crate::choosing;
 use crate::framing;
 use crate::joining;
 use crate::jointly;
@@ -11,6 +12,7 @@ use crate::recoding;
 use crate::running;
 use crate::searching;
 use crate::taping;
+use crate::weighing;
 use scalar::Order;
 ghost use Prim.Native.Nat.{_≤_};
 ghost use lib.ListN.{length};
@@ -41,6 +43,8 @@ fn call(frame: &[u8], out: &mut [u8]) -> usize
         0x0B => bounding::answer(false, Order::HighestFirst, frame, out),
         0x0E => framing::answer(frame, out),
         0x0F => parsing::answer(frame, out),
+        0x10 => choosing::answer(Order::HighestFirst, frame, out),
+        0x11 => weighing::answer(Order::HighestFirst, frame, out),
         0x41 => recoding::answer(true, Order::HighestFirst, frame, out),
         0x42 => checking::answer(false, true, Order::HighestFirst, frame, out),
         0x43 => checking::answer(true, true, Order::HighestFirst, frame, out),
@@ -53,6 +57,8 @@ fn call(frame: &[u8], out: &mut [u8]) -> usize
         0x86 => reading::answer(Order::LowestFirst, frame, out),
         0x89 => joining::answer(Order::LowestFirst, frame, out),
         0x8B => bounding::answer(false, Order::LowestFirst, frame, out),
+        0x90 => choosing::answer(Order::LowestFirst, frame, out),
+        0x91 => weighing::answer(Order::LowestFirst, frame, out),
         0xC1 => recoding::answer(true, Order::LowestFirst, frame, out),
         0xC2 => checking::answer(false, true, Order::LowestFirst, frame, out),
         0xC3 => checking::answer(true, true, Order::LowestFirst, frame, out),

@@ -4,6 +4,7 @@ mod answers;
 mod asked;
 mod bounding;
 mod checking;
+mod choosing;
 mod framing;
 mod input;
 mod joining;
@@ -16,6 +17,7 @@ mod recoding;
 mod running;
 mod searching;
 mod taping;
+mod weighing;
 
 // Of a line one character more is kept than the longest frame has: a longer line is no frame as well.
 fn main() {

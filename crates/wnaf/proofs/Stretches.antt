@@ -14,9 +14,10 @@ use lib.ListN.{length, getD, set, replicate}
 use lib.Pow.{pow-pos, pow-mono, split, high, low, mod-pow-add, shr-shr, shr-le}
 use Rattle.laws.proofs.Integers.{diffs, ring, minus, sub-zero-same}
 use Rattle.laws.proofs.Powers.{pow-pred, odd-part}
-use Rattle.meaning.specs.Digits.{nonzero, top, over}
+use Rattle.meaning.specs.Digits.{nonzero, weight, top, over}
 use Rattle.meaning.specs.Sets.{Between}
 use Rattle.forms.specs.Fractional.{fractionalDigit, remaining, Turn}
+use Rattle.forms.proofs.Built.{put-weight}
 use Rattle.forms.proofs.Strings.{nonzero-one, nonzero-none, over-some}
 use Rattle.forms.proofs.Turns.{turn-even, digit-by, turn-digit, above-plus, above-minus}
 use Rattle.forms.proofs.Wmof.{zero-at}
@@ -266,3 +267,7 @@ module _ {w m p N from last : ℕ} (of : Between w m) (few : m < 128) (room : la
             zeros-are = refl;
             top-is = sym (ap top e ∙ top-put d at digit (omega (arith, passed .0 .same-length)) (passed .0 .zeros) going-digit);
           }
+
+      -- and one digit more
+      pub going-weighs : at < p → weight (set d at digit) ≡ weight d + 1
+      going-weighs there = put-weight d at digit (omega (arith, passed .0 .same-length)) going-zero (nonzero-one digit going-digit) ∙ omega arith

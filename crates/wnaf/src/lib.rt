@@ -1,16 +1,16 @@
 // Form 2, wNAF, in any set: from the lowest place up, a stretch of the scalar at a time. A stretch holds what remains, and each digit is taken off it: the zeros under the
-// digit are jumped over by their count, and the w - 1 zeros after it with it.
+// digit are jumped over by their count, and the w - 1 zeros after it with it. The digits are written, or they are only counted.
 ghost use mathlib.Core.Path.{_≡_};
 ghost use Prim.Native.Nat.{_+_, _*_, _-_, _/_, _%_, _^_, _<_, _≤_};
 ghost use lib.IntN.{pos, negℤ, _-ℤ_};
 ghost use lib.ListN.{length};
 ghost use Rattle.meaning.specs.Scalars.{number, orderOf, bitCount, mostBytes};
-ghost use Rattle.meaning.specs.Digits.{mostPlaces, top};
+ghost use Rattle.meaning.specs.Digits.{mostPlaces, weight, top};
 ghost use Rattle.meaning.specs.Recoding.{markWords, marksOf};
 ghost use Rattle.meaning.specs.Sets.{Pair};
 ghost use Rattle.width.specs.Widths.{Wide};
 ghost use Rattle.forms.specs.Fractional.{fractionalFrom};
-ghost use Rattle.wnaf.specs.Stretches.{Carried, Left, Standing, Takes};
+ghost use Rattle.wnaf.specs.Stretches.{Carried, Left, Written, Counted, Takes};
 use scalar::STRETCH;
 
 // How far the string is written, the carry that goes on, and the top so far.
@@ -47,7 +47,7 @@ fn carried(rest: u64, over: u64) -> u64
 }
 
 // Half the span of a digit: a power of two over every digit of the whole width.
-fn half_span(w: u32) -> u64
+pub fn half_span(w: u32) -> u64
     requires { ⌜ Wide w ⌝ }
     ensures { λ r. ⌜ r ≡ 2 ^ (w - 1) ⌝ }
 {
@@ -98,7 +98,7 @@ fn take_between(w: u32, largest: u64, y: u64) -> Taken
     left(rest, largest + span / 2, above + 1)
 }
 
-// Takes the digit off an odd y. Nothing is written.
+// Takes the digit off an odd y. Nothing is written: the string's writer and its counter share it.
 fn take(w: u32, largest: u64, half: u64, y: u64) -> Taken
     requires { ⌜ Pair w largest ⌝ }
     requires { ⌜ (half ≡ 2 ^ (w - 1)) × (y % 2 ≡ 1) × (y < 2 ^ 57) ⌝ }
@@ -128,6 +128,7 @@ fn onward(i: usize, last: usize) -> usize
     if i <= last { last + 1 } else { i }
 }
 
+// ---- writing
 // Writes the digits that start and end in the stretch from place `from` on. What remains there is x, as far as the stretch goes.
 fn advance(
     w: u32,
@@ -143,9 +144,9 @@ fn advance(
     requires { ⌜ Pair w largest ⌝ }
     requires { ⌜ length (now s) ≤ mostBytes ⌝ }
     requires { ⌜ from < length (now digits) ⌝ }
-    requires { ⌜ Standing w largest (orderOf order) (now s) from before under (now digits) (now marks) ⌝ }
+    requires { ⌜ Written w largest (orderOf order) (now s) from before under (now digits) (now marks) ⌝ }
     ensures { λ r. ⌜ from < r .place ⌝ }
-    ensures { λ r. ⌜ Standing w largest (orderOf order) (now (s .entry)) (r .place) (r .carry) (r .top) (now (digits .exit)) (now (marks .exit)) ⌝ }
+    ensures { λ r. ⌜ Written w largest (orderOf order) (now (s .entry)) (r .place) (r .carry) (r .top) (now (digits .exit)) (now (marks .exit)) ⌝ }
 {
     let half = half_span(w);
     let mut carry = before;
@@ -199,4 +200,88 @@ pub fn write(
         i = reach.place;
     }
     top
+}
+
+// ---- counting
+// What a string counts.
+pub struct Counts {
+    pub weight: usize,
+    pub top: usize,
+}
+
+// How far the string is counted, the carry that goes on, and the weight and the top so far.
+struct Passed {
+    place: usize,
+    carry: u64,
+    weight: usize,
+    top: usize,
+}
+
+// Counts the digits that start and end in the stretch from place `from` on, as `advance` writes them.
+fn pass(
+    w: u32,
+    largest: u64,
+    order: u8,
+    s: &[u8],
+    from: usize,
+    before: u64,
+    weighed: usize,
+    under: usize,
+) -> Passed
+    requires { ⌜ Pair w largest ⌝ }
+    requires { ⌜ length (now s) ≤ mostBytes ⌝ }
+    requires { ⌜ from < bitCount (now s) + 1 ⌝ }
+    requires { ⌜ Counted w largest (orderOf order) (now s) from before under weighed ⌝ }
+    ensures { λ r. ⌜ from < r .place ⌝ }
+    ensures { λ r. ⌜ Counted w largest (orderOf order) (now (s .entry)) (r .place) (r .carry) (r .top) (r .weight) ⌝ }
+{
+    let half = half_span(w);
+    let mut carry = before;
+    let mut weight = weighed;
+    let mut top = under;
+    let mut i = from;
+    let mut x = scalar::stretch(order, s, from) + before;
+    let mut zeros = u64::trailing_zeros(x);
+    let last = last_start(w, from, 8 * s.len() + 1);
+    while i + (zeros as usize) <= last {
+        let at = i + (zeros as usize);
+        let taken = take(w, largest, half, x >> zeros);
+        carry = taken.carry;
+        x = taken.rest;
+        weight += 1;
+        top = at + 1;
+        i = at + (w as usize);
+        zeros = u64::trailing_zeros(x);
+    }
+    Passed {
+        place: onward(i, last),
+        carry: carry,
+        weight: weight,
+        top: top,
+    }
+}
+
+// The weight and the top of the string of `s`, with no memory for its digits.
+pub fn count(w: u32, largest: u64, order: u8, s: &[u8]) -> Counts
+    requires { ⌜ Pair w largest ⌝ }
+    requires { ⌜ length (now s) ≤ mostBytes ⌝ }
+    ensures { λ r. ⌜ r .weight ≡ weight (fractionalFrom w largest (bitCount (now (s .entry)) + 1) (number (orderOf order) (now (s .entry)))) ⌝ }
+    ensures { λ r. ⌜ r .top ≡ top (fractionalFrom w largest (bitCount (now (s .entry)) + 1) (number (orderOf order) (now (s .entry)))) ⌝ }
+{
+    let places = 8 * s.len() + 1;
+    let mut carry: u64 = 0;
+    let mut weight: usize = 0;
+    let mut top: usize = 0;
+    let mut i: usize = 0;
+    while i < places {
+        let passed = pass(w, largest, order, s, i, carry, weight, top);
+        carry = passed.carry;
+        weight = passed.weight;
+        top = passed.top;
+        i = passed.place;
+    }
+    Counts {
+        weight: weight,
+        top: top,
+    }
 }

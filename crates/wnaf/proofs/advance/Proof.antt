@@ -32,7 +32,7 @@ start l = l .before .before .before .before .before .before
 
 -- the buffer, and what is known of the set, of the half and of the last start
 size : (c : tie.Start Inv-loop μ-loop) → length (now (c .args .digits)) ≤ 529
-size c = omega (arith, c .pre .1 .1 .1 .reached .same-length, c .pre .1 .0)
+size c = omega (arith, c .pre .1 .1 .1 .standing .reached .same-length, c .pre .1 .0)
 
 abbrev last : tie.At-loop Inv-loop μ-loop → ℕ
 last l = l .before .last-start .result
@@ -59,7 +59,7 @@ begun c = c .before .loop-test .taken
 
 -- a digit that may start lies in the string
 inside : (l : tie.At-loop Inv-loop μ-loop) → l .loop .i + l .loop .zeros ≤ last l → l .loop .i + l .loop .zeros < bitCount (now (start l .args .s)) + 1
-inside l t = omega (arith, t, l .before .last-start .ensures .1, start l .pre .1 .1 .1 .reached .same-length)
+inside l t = omega (arith, t, l .before .last-start .ensures .1, start l .pre .1 .1 .1 .standing .reached .same-length)
 
 half-span-requires : tie.Need-half-span-requires Inv-loop μ-loop
 half-span-requires c κs = pair-wide (c .before .before .pre .0)
@@ -70,7 +70,7 @@ stretch-requires c κs = search needs
 add-x : tie.Need-add-x Inv-loop μ-loop
 add-x c =
     let a = c .before .before .before .before in
-    record { fits = omega (arith, c .stretch .ensures, mod-lt (number (orderOf (a .args .order)) (now (a .args .s)) / 2 ^ a .args .from) (pow-pos 56), a .pre .1 .1 .1 .small) }
+    record { fits = omega (arith, c .stretch .ensures, mod-lt (number (orderOf (a .args .order)) (now (a .args .s)) / 2 ^ a .args .from) (pow-pos 56), a .pre .1 .1 .1 .standing .small) }
 
 last-start-requires : tie.Need-last-start-requires Inv-loop μ-loop
 last-start-requires c κs =
@@ -81,7 +81,8 @@ loop-holds : tie.Need-loop-holds Inv-loop μ-loop
 loop-holds c =
     let a = c .before .before .before .before .before in
     let st = a .pre .1 .1 .1 in
-    (going-start (st .reached) (st .small) (c .before .stretch .ensures) (st .top-is), st .marks-are)
+    let sd = st .standing in
+    (going-start (sd .reached) (sd .small) (c .before .stretch .ensures) (sd .top-is), st .marks-are)
 
 cast-loop : tie.Need-cast-loop Inv-loop μ-loop
 cast-loop c = record { fits = omega (arith, c .loop .inv .0 .zeros-are, trailing-le 64 (c .loop .x)) }
@@ -148,7 +149,7 @@ onward-requires c κs = short (c .before)
 same-length : tie.Need-same-length Inv-loop μ-loop
 same-length c =
     let l = c .before .before in
-    l .loop .inv .0 .reached .same-length ∙ sym (start l .pre .1 .1 .1 .reached .same-length)
+    l .loop .inv .0 .reached .same-length ∙ sym (start l .pre .1 .1 .1 .standing .reached .same-length)
 
 same-length-2 : tie.Need-same-length-2 Inv-loop μ-loop
 same-length-2 c =
@@ -160,7 +161,7 @@ returns c =
     let l = c .before .before in
     let g = l .loop .inv .0 in
     let (more, reached) = going-past (of l) (few l) (room l) g (c .onward .ensures .0) (c .onward .ensures .1) (c .before .loop-test .left) (l .before .last-start .ensures .0) in
-    (more, record { reached = reached; marks-are = l .loop .inv .1; small = g .small; top-is = g .top-is })
+    (more, record { standing = record { reached = reached; small = g .small; top-is = g .top-is }; marks-are = l .loop .inv .1 })
 
 pub advance-spec : {M : Type 1} → statement M
 advance-spec =

@@ -7,7 +7,7 @@ use lib.IntN.{pos}
 use lib.ListN.{length, replicate}
 use denote.Ref.{now}
 use Rattle.meaning.specs.Scalars.{number, orderOf, bitCount}
-use Rattle.wnaf.specs.Stretches.{Standing}
+use Rattle.wnaf.specs.Stretches.{Written}
 use Rattle.wnaf.proofs.Strings.{reach-none, reach-all}
 use Rattle.wnaf.proofs.Stretches.{top-zeros}
 use Rattle.places.proofs.Marking.{marks-length}
@@ -15,7 +15,7 @@ use Rattle.wnaf.proofs.write.Statement.{statement}
 use Rattle.wnaf.proofs.write.Tie as tie
 
 abbrev Inv-loop : tie.InvT-loop
-Inv-loop w largest order s digits₀ marks₀ carry₀ top₀ i₀ digits marks carry top i = Standing w largest (orderOf order) s i carry top digits marks
+Inv-loop w largest order s digits₀ marks₀ carry₀ top₀ i₀ digits marks carry top i = Written w largest (orderOf order) s i carry top digits marks
 
 abbrev μ-loop : tie.MeasureT-loop
 μ-loop w largest order s digits₀ marks₀ carry₀ top₀ i₀ digits marks carry top i = length digits - i
@@ -33,10 +33,13 @@ loop-holds c =
     let a = c .before .before .before .before .before .before .before .before .args in
     let m : length (now (a .digits)) ≡ bitCount (now (a .s)) + 1 = omega arith in
     record {
-      reached = reach-none (a .w) (a .largest) (bitCount (now (a .s)) + 1) (number (orderOf (a .order)) (now (a .s))) (z .0 ∙ ap (λ t. replicate t (pos 0)) m);
+      standing =
+          record {
+            reached = reach-none (a .w) (a .largest) (bitCount (now (a .s)) + 1) (number (orderOf (a .order)) (now (a .s))) (z .0 ∙ ap (λ t. replicate t (pos 0)) m);
+            small = omega arith;
+            top-is = sym (top-zeros (length (now (a .digits))) (z .0));
+          };
       marks-are = z .1;
-      small = omega arith;
-      top-is = sym (top-zeros (length (now (a .digits))) (z .0));
     }
 
 advance-requires : tie.Need-advance-requires Inv-loop μ-loop
@@ -49,13 +52,13 @@ loop-less : tie.Need-loop-less Inv-loop μ-loop
 loop-less c =
     let r = c .before .before .before .advance .ensures in
     let l = c .before .before .before .before .before .before .before in
-    omega (arith, r .0, r .1 .reached .same-length, l .loop .inv .reached .same-length, c .before .before .before .before .before .before .loop-test .taken)
+    omega (arith, r .0, r .1 .standing .reached .same-length, l .loop .inv .standing .reached .same-length, c .before .before .before .before .before .before .loop-test .taken)
 
 loop-again : tie.Need-loop-again Inv-loop μ-loop
 loop-again c = c .before .before .before .advance .ensures .1
 
 same-length : tie.Need-same-length Inv-loop μ-loop
-same-length c = c .before .loop .inv .reached .same-length ∙ sym (start (c .before) .pre .1 .1 .0)
+same-length c = c .before .loop .inv .standing .reached .same-length ∙ sym (start (c .before) .pre .1 .1 .0)
 
 same-length-2 : tie.Need-same-length-2 Inv-loop μ-loop
 same-length-2 c = ap length (c .before .loop .inv .marks-are) ∙ marks-length (c .before .loop .digits) ∙ sym (start (c .before) .pre .1 .1 .1)
@@ -63,7 +66,7 @@ same-length-2 c = ap length (c .before .loop .inv .marks-are) ∙ marks-length (
 returns : tie.Need-returns Inv-loop μ-loop
 returns c =
     let l = c .before .loop in
-    (reach-all (l .inv .reached) (omega (arith, l .inv .reached .same-length, c .loop-test .left)), (l .inv .marks-are, l .inv .top-is))
+    (reach-all (l .inv .standing .reached) (omega (arith, l .inv .standing .reached .same-length, c .loop-test .left)), (l .inv .marks-are, l .inv .standing .top-is))
 
 pub write-spec : {M : Type 1} → statement M
 write-spec = tie.close (tie.spec Inv-loop μ-loop clear-requires loop-holds advance-requires loop-less loop-again same-length same-length-2 returns)

@@ -1,0 +1,2 @@
+-- What the contracts of this crate cite beside `meaning`.
+pub mod Answers
