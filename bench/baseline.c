@@ -438,6 +438,55 @@ sarvundole_ran baseline_run(sarvundole_set set, const uint16_t *tape, size_t wor
     return r;
 }
 
+/* ---- powers */
+static uint32_t product(uint32_t x, uint32_t y, uint32_t modulus) { return (uint32_t)((uint64_t)x * y % modulus); }
+
+static void store_powers(uint32_t *powers, size_t entries, uint32_t modulus, uint32_t base) {
+    uint32_t power = base % modulus, square = product(power, power, modulus);
+    for (size_t e = 0; e < entries; e++) {
+        powers[e] = power;
+        power = product(power, square, modulus);
+    }
+}
+
+sarvundole_ran baseline_run_powers(sarvundole_set set, const uint16_t *tape, size_t words, uint32_t modulus, uint32_t base, uint32_t inverse, uint32_t *powers,
+                                   size_t room, uint32_t *inverse_powers, size_t inverse_room) {
+    sarvundole_ran r = {bad_set(set), 0, 0, 0, 0, {0, 0}};
+    const size_t entries = (set.largest + 1u) / 2;
+    if (r.refusal) return r;
+    if (!modulus) r.refusal = 12;
+    else if (words > SARVUNDOLE_MOST_WORDS) r.refusal = 13;
+    else if (room < entries || inverse_room < entries) r.refusal = 14;
+    if (r.refusal) return r;
+    size_t bad = first_bad(tape, words, entries);
+    if (bad < words) {
+        r.refusal = 15;
+        r.place = (uint16_t)bad;
+        return r;
+    }
+    if (product(base, inverse, modulus) != 1 % modulus) {
+        r.refusal = 17;
+        return r;
+    }
+    store_powers(powers, entries, modulus, base);
+    store_powers(inverse_powers, entries, modulus, inverse);
+    uint32_t value = 1 % modulus;
+    for (size_t i = 0; i < words; i++) {
+        const unsigned entry = tape[i] & 0xFFF;
+        switch (tape[i] >> 12) {
+        case 0: value = product(value, value, modulus); r.doublings++; break;
+        case 1: value = powers[entry]; break;
+        case 2: value = inverse_powers[entry]; break;
+        case 3: value = product(value, powers[entry], modulus); r.additions++; break;
+        default: value = product(value, inverse_powers[entry], modulus); r.additions++; break;
+        }
+    }
+    r.residue = value;
+    r.cost.doublings = (uint16_t)(2 * (entries > 1));
+    r.cost.additions = (uint16_t)(2 * (entries - 1));
+    return r;
+}
+
 /* ---- two scalars together */
 /* Solinas's digit of a number that is r modulo 8 beside one that is s: 0 where r is even, else its signed residue modulo 4, turned where r is 3 or 5 and s is 2 modulo 4.
  * Looked up in a constant of two bits an entry, since the residues are as good as random. */

@@ -19,8 +19,8 @@ typedef struct {
     sarvundole_set set;
     uint8_t form, order;
     uint8_t scalar[80], other[80], group[80];
-    size_t bytes, other_bytes, group_bytes, places, other_places, words, room, marks_room, multiples_room, line_room, characters;
-    uint32_t modulus, base, second, entries;
+    size_t bytes, other_bytes, group_bytes, places, other_places, words, room, marks_room, multiples_room, inverses_room, line_room, characters;
+    uint32_t modulus, base, unit, inverse, second, entries; /* unit times inverse is 1 modulo modulus */
     uint16_t calls;
     sarvundole_reader reader;
     int8_t digits[ROOM_PLACES], rival[ROOM_PLACES];
@@ -33,7 +33,7 @@ typedef struct {
     int8_t digits[ROOM_PLACES], second[ROOM_PLACES];
     uint64_t marks[ROOM_MARKS];
     uint16_t words[ROOM_WORDS];
-    uint32_t multiples[ROOM_MULTIPLES];
+    uint32_t multiples[ROOM_MULTIPLES], inverses[ROOM_MULTIPLES];
     uint8_t line[ROOM_LINE];
     uint32_t fields[8];
 } output;
@@ -78,6 +78,11 @@ static void ran(output *out, sarvundole_ran r) {
 
 static void run(const input *in, output *out, int library) {
     ran(out, (library ? sarvundole_run : baseline_run)(in->set, in->tape, in->words, in->modulus, in->base, out->multiples, in->multiples_room));
+}
+
+static void run_powers(const input *in, output *out, int library) {
+    ran(out, (library ? sarvundole_run_powers : baseline_run_powers)(in->set, in->tape, in->words, in->modulus, in->unit, in->inverse, out->multiples, in->multiples_room,
+                                                                     out->inverses, in->inverses_room));
 }
 
 static void joint(const input *in, output *out, int library) {
@@ -165,6 +170,22 @@ static uint32_t chance(uint32_t below) {
 
 static uint32_t any32(void) { return chance(65536) << 16 | chance(65536); }
 
+/* The inverse of a number modulo an odd modulus, by Euclid's steps, or 0 where there is none. */
+static uint32_t inverse_of(uint32_t number, uint32_t modulus) {
+    int64_t a = modulus, b = number % modulus, x = 0, y = 1;
+    while (b) {
+        const int64_t quotient = a / b, rest = a % b, next = x - quotient * y;
+        a = b, b = rest, x = y, y = next;
+    }
+    return a == 1 ? (uint32_t)(x < 0 ? x + modulus : x) : 0;
+}
+
+/* A base with an inverse modulo the input's modulus: the next from its base on. */
+static void give_unit(input *in) {
+    in->unit = in->base;
+    while (in->inverse = inverse_of(in->unit, in->modulus), (uint64_t)in->unit * in->inverse % in->modulus != 1 % in->modulus) in->unit++;
+}
+
 /* An input that the calls accept: a random scalar below an order of bytes FF, its string in a form, and that string's tape; another scalar, and the tape of both. */
 static void accepted(input *in, uint8_t form, sarvundole_set set, uint8_t order, size_t bytes) {
     uint64_t marks[SARVUNDOLE_MARK_WORDS];
@@ -172,8 +193,9 @@ static void accepted(input *in, uint8_t form, sarvundole_set set, uint8_t order,
     in->form = form, in->set = set, in->order = order, in->bytes = bytes;
     for (size_t i = 0; i < bytes; i++) in->scalar[i] = (uint8_t)chance(256);
     memset(in->group, 0xFF, in->group_bytes = bytes);
-    in->places = 8 * bytes + 1, in->room = ROOM_WORDS, in->marks_room = SARVUNDOLE_MARK_WORDS, in->multiples_room = ROOM_MULTIPLES;
+    in->places = 8 * bytes + 1, in->room = ROOM_WORDS, in->marks_room = SARVUNDOLE_MARK_WORDS, in->multiples_room = in->inverses_room = ROOM_MULTIPLES;
     in->modulus = any32() | 1, in->base = any32(), in->calls = (uint16_t)(8 * bytes);
+    give_unit(in);
     baseline_recode(form, set, order, in->scalar, bytes, in->digits, in->places, marks, SARVUNDOLE_MARK_WORDS);
     baseline_recode(SARVUNDOLE_WNAF, sarvundole_whole(2), order, in->scalar, bytes, in->rival, in->places, marks, SARVUNDOLE_MARK_WORDS);
     in->entries = 1u << (set.width - 2);
@@ -215,7 +237,7 @@ static void any(input *in) {
     if (!chance(8)) in->reader.place = (uint16_t)chance(65536), in->reader.floor = (uint16_t)chance(65536), in->reader.refusal = (uint8_t)chance(256);
     if (!chance(2)) near(in);
     if (chance(2)) in->entries = chance(2) ? chance(70) : any32();
-    switch (chance(20)) {
+    switch (chance(22)) {
     case 0: in->form = (uint8_t)chance(256); break;
     case 1: in->set.width = (uint8_t)chance(11); break;
     case 2: in->bytes = chance(80); break;
@@ -224,7 +246,7 @@ static void any(input *in) {
     case 5: in->digits[chance((uint32_t)in->places)] = (int8_t)chance(256); break;
     case 6: in->scalar[chance(66)] ^= (uint8_t)(1 << chance(8)); break;
     case 7: in->room = chance((uint32_t)in->words + 1); break;
-    case 8: in->modulus = chance(3); break;
+    case 8: in->modulus = chance(3); in->unit = chance(4), in->inverse = chance(4); break;
     case 9: in->words = chance(ROOM_WORDS); break;
     case 10: in->multiples_room = chance(ROOM_MULTIPLES); break;
     case 11: in->tape[chance((uint32_t)in->words + 1)] = (uint16_t)chance(65536); break;
@@ -233,6 +255,8 @@ static void any(input *in) {
     case 14: in->other_places = chance(ROOM_PLACES); break;
     case 15: in->joint[chance((uint32_t)in->joint_words + 1)] = (uint16_t)chance(65536); break;
     case 16: in->set.largest = (uint8_t)chance(256); break;
+    case 17: in->inverses_room = chance(ROOM_MULTIPLES); break;
+    case 18: in->inverse = any32(); break;
     default: break;
     }
     framed(in, (uint8_t)(1 + chance(2)));
@@ -355,6 +379,7 @@ int main(int words, char **given) {
         {"check_nonadjacent", check_nonadjacent, 2, 0, {2, 4, 5, 6, 8}},
         {"tape", tape, 2, 0, {2, 4, 5, 6, 8}},
         {"run", run, 2, 0, {2, 4, 5, 6, 8}},
+        {"run_powers", run_powers, 2, 0, {2, 4, 5, 6, 8}},
         {"read_at", read_at, 3, 0, {2, 4, 5, 6, 8}},
         {"reader_next", reader_next, 3, 0, {2, 4, 5, 6, 8}},
         {"write, version 1", write_1, 2, 0, {2, 4, 5, 6, 8}},

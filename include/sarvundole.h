@@ -1,5 +1,5 @@
 /* Sarvundole: recodes a public check number to signed digits, checks digits made elsewhere, makes a step tape of a string and runs
- * a tape over residues; does both for two scalars together; writes a string as a line of hexadecimal and reads such a line. C99 and C++.
+ * a tape over residues or over powers; recodes and runs for two scalars together; writes a string as a line of hexadecimal and reads such a line. C99 and C++.
  *
  * Scalars come as bytes, 0 to 66 of them, in either order: each call on a scalar is told which byte comes first, 0 for the highest, anything
  * else for the lowest. L bytes have n = 8L bits. A width w is 2 to 8. The digits of width w are 0 and
@@ -29,7 +29,7 @@
 #include <stdint.h>
 
 /* This header's version. */
-#define SARVUNDOLE_VERSION "3.0.0"
+#define SARVUNDOLE_VERSION "3.1.0"
 
 #ifdef __cplusplus
 extern "C" {
@@ -50,7 +50,7 @@ enum sarvundole_form {
     SARVUNDOLE_CLOSEST_SMALLER = 5 /* the same, on a tie the one of smaller absolute value */
 };
 
-/* The refusals. 6 was struck, since n + 1 places always suffice, and is not used again; 17 no call gives. */
+/* The refusals. 6 was struck, since n + 1 places always suffice, and is not used again. */
 enum sarvundole_refusal {
     SARVUNDOLE_ACCEPTED = 0,
     SARVUNDOLE_BAD_FORM = 1,         /* form is not 1..5 */
@@ -65,9 +65,10 @@ enum sarvundole_refusal {
     SARVUNDOLE_SHORT_TAPE = 11,      /* tape buffer too short for all its words */
     SARVUNDOLE_ZERO_MODULUS = 12,    /* modulus 0 */
     SARVUNDOLE_LONG_TAPE = 13,       /* tape over 1,057 words */
-    SARVUNDOLE_FEW_MULTIPLES = 14,   /* multiples buffer under (m + 1) / 2 entries, which are 2^(w-2) at a whole width; in run_joint, under 4 */
+    SARVUNDOLE_FEW_MULTIPLES = 14,   /* multiples buffer under (m + 1) / 2 entries, which are 2^(w-2) at a whole width; in run_joint, under 4; in run_powers, either buffer */
     SARVUNDOLE_BAD_WORD = 15,        /* a bad word; place is the first such */
     SARVUNDOLE_MALFORMED = 16,       /* line not all hexadecimal, not opening with 00 or A2, or lacking a field or part of one */
+    SARVUNDOLE_NO_INVERSE = 17,      /* product of base and inverse not 1 modulo m */
     SARVUNDOLE_UNEQUAL_SCALARS = 18, /* scalars of unequal lengths */
     SARVUNDOLE_BAD_GROUP = 19,       /* group order empty, worth zero or over 66 bytes */
     SARVUNDOLE_NOT_BELOW = 20,       /* scalar not below the group order, as numbers */
@@ -93,9 +94,10 @@ static inline const char *sarvundole_refusal_words(unsigned refusal) {
     case SARVUNDOLE_SHORT_TAPE: return "the tape buffer is too short";
     case SARVUNDOLE_ZERO_MODULUS: return "the modulus is 0";
     case SARVUNDOLE_LONG_TAPE: return "the tape is over 1,057 words";
-    case SARVUNDOLE_FEW_MULTIPLES: return "the multiples buffer is too short";
+    case SARVUNDOLE_FEW_MULTIPLES: return "the multiples buffer, or a powers buffer, is too short";
     case SARVUNDOLE_BAD_WORD: return "a word of the tape is bad";
     case SARVUNDOLE_MALFORMED: return "the line is malformed";
+    case SARVUNDOLE_NO_INVERSE: return "the product of base and inverse is not 1";
     case SARVUNDOLE_UNEQUAL_SCALARS: return "the two scalars are not equally long";
     case SARVUNDOLE_BAD_GROUP: return "the group order is empty, worth zero or over 66 bytes";
     case SARVUNDOLE_NOT_BELOW: return "the scalar is not below the group order";
@@ -158,7 +160,7 @@ typedef struct sarvundole_cost {
     uint16_t additions;
 } sarvundole_cost;
 
-/* What run and run_joint answer: the residue reached, the doublings and additions done, and the cost of the multiples, which those two leave out. */
+/* What run, run_powers and run_joint answer: the residue reached, the doublings and additions done, and the cost of the multiples, which those two leave out. */
 typedef struct sarvundole_ran {
     uint8_t refusal;
     uint16_t place;
@@ -290,6 +292,14 @@ sarvundole_joined sarvundole_joint(uint8_t order, const uint8_t *a, size_t a_byt
  * Refusals: 12, 13, 14, 15. */
 sarvundole_ran sarvundole_run_joint(const uint16_t *tape, size_t words, uint32_t modulus, uint32_t first, uint32_t second, uint32_t *entries,
                                     size_t room);
+
+/* Runs a tape over powers: a double squares, an add multiplies by an odd power of the base, a subtract by one of the inverse. All words are judged, and that base times
+ * inverse is 1 modulo the modulus is tested, before a power is stored; then base^(2e + 1) and inverse^(2e + 1) mod modulus are stored, an entry for each positive digit,
+ * for an empty tape too. `residue` is the base to the tape's value, or for a negative value the inverse to the positive power; an empty tape gives 1 modulo the modulus.
+ * Squarings are reported as doublings, multiplications as additions, and the cost is that of both sets of powers, twice run's. Lent: the tape; for writing, at least
+ * (largest + 1) / 2 powers of either. Refusals, tried in this order: 2, 22, 12, 13, 14 for either buffer, 15, 17. */
+sarvundole_ran sarvundole_run_powers(sarvundole_set set, const uint16_t *tape, size_t words, uint32_t modulus, uint32_t base, uint32_t inverse,
+                                     uint32_t *powers, size_t room, uint32_t *inverse_powers, size_t inverse_room);
 
 /* Starts a reader, which gives wMOF one digit a call, places n down to 0, then says done at every later call. Started from refused input,
  * it holds the number and is done at once. Lent: the scalar. Refusals: 2, 3. */

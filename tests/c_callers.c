@@ -29,7 +29,7 @@ typedef struct {
     int reading;
 } memory;
 
-static memory scalars, others, groups, strings, rivals, tapes, lines, digits, seconds, marks, words, multiples, written;
+static memory scalars, others, groups, strings, rivals, tapes, lines, digits, seconds, marks, words, multiples, inverses, written;
 
 static void protect(const memory *m, int how) {
     if (mprotect(m->start, page, how)) abort();
@@ -186,6 +186,17 @@ static void run(int at_end) {
     put_ran(sarvundole_run(set, lend_words(count, at_end), count, modulus, base, m, room));
 }
 
+/* The powers stand where a run's multiples do. */
+static void run_powers(int at_end) {
+    sarvundole_set set = take_set();
+    size_t room = take(2), inverse_room = take(2);
+    uint32_t modulus = take(4), base = take(4), inverse = take(4);
+    size_t count = left / 2;
+    uint32_t *p = lend_to_write(&multiples, room, 4, 0xDEADBEEF, at_end), *i = lend_to_write(&inverses, inverse_room, 4, 0xC0DEC0DE, at_end);
+    put_ran(sarvundole_run_powers(set, lend_words(count, at_end), count, modulus, base, inverse, p, room, i, inverse_room));
+    put_lent(&inverses, 4);
+}
+
 static void joint(int at_end) {
     size_t places = take(2), other_places = take(2), room = take(2), bytes = take(1), other_bytes = left - bytes;
     int8_t *u = lend_to_write(&digits, places, 1, 0x5A, at_end), *v = lend_to_write(&seconds, other_places, 1, 0x5A, at_end);
@@ -258,7 +269,7 @@ static void worded(void) {
     const char *const none = sarvundole_refusal_words(6);
     for (unsigned a = 0; a < 300; a++) {
         const char *words = sarvundole_refusal_words(a);
-        const int given = (a != 6 && a <= SARVUNDOLE_MALFORMED) || a == SARVUNDOLE_UNEQUAL_SCALARS || a == SARVUNDOLE_BAD_GROUP || a == SARVUNDOLE_NOT_BELOW || a == SARVUNDOLE_UNFIT_FRAME || a == SARVUNDOLE_BAD_SET || a == SARVUNDOLE_NO_WIDTH_FITS || a == SARVUNDOLE_SHORT_LINE;
+        const int given = a != 6 && a <= SARVUNDOLE_SHORT_LINE;
         if ((strcmp(words, none) == 0) == given) refuse("a refusal has no words, or a number that is none has");
         for (unsigned b = 0; b < a && given; b++)
             if (strcmp(words, sarvundole_refusal_words(b)) == 0) refuse("two refusals have the same words");
@@ -344,6 +355,7 @@ static void call(const uint8_t *data, size_t bytes, int at_end) {
     case 5: run(at_end); break;
     case 6: read_all(at_end); break;
     case 7: search(); break;
+    case 8: run_powers(at_end); break;
     case 9: joint(at_end); break;
     case 10: run_joint(at_end); break;
     case 11: recode_below(at_end); break;
@@ -359,7 +371,7 @@ int main(void) {
     static char line[MOST_LINE];
     static uint8_t data[MOST_LINE / 2], before[MOST_ANSWER];
     page = (size_t)sysconf(_SC_PAGESIZE);
-    memory *const all[] = {&scalars, &others, &groups, &strings, &rivals, &tapes, &lines, &digits, &seconds, &marks, &words, &multiples, &written};
+    memory *const all[] = {&scalars, &others, &groups, &strings, &rivals, &tapes, &lines, &digits, &seconds, &marks, &words, &multiples, &inverses, &written};
     for (size_t i = 0; i < sizeof all / sizeof *all; i++) make(all[i]);
     made_up_all();
     worded();

@@ -6,6 +6,7 @@ held against second.py's as the line is made.
 """
 
 import itertools
+import math
 import pathlib
 import random
 
@@ -74,6 +75,11 @@ def joint_fitting(a, b):
 def run_joint(lent, modulus, g, h, words):
     numbers = lent.to_bytes(2, "big") + b"".join(n.to_bytes(4, "big") for n in (modulus, g, h))
     return hexadecimal(bytes([10]) + numbers + second.big_endian(words, 2))
+
+
+def powers(width, lent, lent_inverse, modulus, base, inverse, words):
+    numbers = second.big_endian([lent, lent_inverse], 2) + second.big_endian([modulus, base, inverse], 4)
+    return hexadecimal(bytes([8, width]) + numbers + second.big_endian(words, 2))
 
 
 def reader(width, calls, scalar):
@@ -530,6 +536,18 @@ def run_joint_faults():
         yield run_joint(3 if 14 in faults else 4, 0 if 12 in faults else 10, 9, 8, words)
 
 
+def powers_faults():
+    """Each fault, every two of them at once, and all; 14 for either buffer and for both."""
+    numbers = (2, 22, 12, 13, 14, 15, 17)
+    for faults in [*itertools.chain.from_iterable(itertools.combinations(numbers, k) for k in range(3)), numbers]:
+        words = [0x1001, 0x0000, 0x0000, 0x5000 if 15 in faults else 0x0000, 0x4001, 0x0000]
+        if 13 in faults:
+            words += [0x0000] * (MOST_WORDS + 1 - len(words))
+        for lent in ((2, 3), (3, 2), (2, 2)) if 14 in faults else ((3, 3),):
+            line = powers(1 if 2 in faults else 3, *lent, 0 if 12 in faults else 10, 9, 8 if 17 in faults else 9, words)
+            yield in_set(line, 8 if 22 in faults else 5)
+
+
 def frame_faults():
     """Every set of faults of a written string, and of a line that is read."""
     for version, faults in itertools.product((1, 2), subsets([7, 24])):
@@ -810,6 +828,53 @@ def run_joint_edges():
         yield run_joint(lent, 97, 5, 6, [0x1000])
 
 
+def inverse_of(modulus, base):
+    """The inverse of a base that has one, else 1."""
+    try:
+        return pow(base, -1, modulus)
+    except ValueError:
+        return 1
+
+
+def powers_edges():
+    """Known tapes, every base and claimed inverse of small moduli, the largest numbers, the longest tapes, room in either buffer, and every set."""
+    for _, width, text, _, _, _, multiples in KNOWN_TAPES:
+        words, count = [int(x, 16) for x in text.split()], len(multiples)
+        for modulus, base in ((7, 3), (1000, 7), (1000003, 5), (2**32 - 5, 123456789)):
+            for lent in ((count, count), (count + 2, count), (count, count + 3), (count - 1, count), (count, count - 1)):
+                yield powers(width, *lent, modulus, base, inverse_of(modulus, base), words)
+    for modulus in (0, 1, 2, 6):
+        for base, inverse in itertools.product(range(modulus + 2), repeat=2):
+            yield powers(3, 2, 2, modulus, base, inverse, [0x2001, 0x0000, 0x3000])
+    most = 2**32 - 1
+    tapes = itertools.cycle(([], [0x1001], [0x2001], [0x1001, 0, 0, 0, 0x4001, 0], [0x2001, 0, 0x3000, 0x3001, 0x4000], [0x1000, 0x4000], [0x2000, 0x3001]))
+    for modulus, base in itertools.product((1, 10, 2**31, most - 4, most), (0, 1, 2, 9, 2**31, most)):
+        inverse = inverse_of(modulus, base)
+        for claimed in (inverse, min(inverse + modulus, most), most - inverse):
+            yield powers(3, 2, 3, modulus, base, claimed, next(tapes))
+    for count in (1056, 1057, 1058, 1100):
+        yield powers(2, 1, 1, 1000003, 5, inverse_of(1000003, 5), [0x1000] + [0x0000] * (count - 1))
+        yield powers(8, 64, 64, most, 2, 2**31, [0x203F] + [0x303F, 0x0000] * ((count - 1) // 2) + [0x403F] * ((count - 1) % 2))
+    for width, largest in second.sets():
+        count = second.entries(width, largest)
+        side = count % 2  # which buffer has a power more, or one too few
+        for lent in ((count + side, count + 1 - side), (count - side, count - 1 + side)):
+            yield in_set(powers(width, *lent, 1009, 123, inverse_of(1009, 123), [0x1000 + 0x1000 * side + count - 1, 0, 0x3000, 0x4000 + count - 1]), largest)
+    for width in (0, 1, *WIDTHS, 9, 255):
+        need = min(2 ** max(width - 2, 0), 80)
+        for lent in (need - 1, need):
+            yield powers(width, lent, 80, 97, 5, 39, [0x1000, 0x0000, 0x3000])
+            yield powers(width, 80, lent, 97, 5, 39, [0x1000, 0x0000, 0x3000])
+
+
+def powers_every_word():
+    """Every code with the entries about a width's limit, as the first word and as a later one."""
+    for code, entry in itertools.product(range(16), (0, 1, 2, 4095)):
+        x = code << 12 | entry
+        for words in ([x], [0x2000, x, 0x0000]):
+            yield powers(3, 2, 2, 1009, 123, inverse_of(1009, 123), words)
+
+
 def reader_edges():
     for n, width in itertools.product(range(256), WIDTHS):
         yield reader(width, 10, bytes([n]))
@@ -947,6 +1012,7 @@ def trial_malformed():
         nonadjacent(3, b"\x2a", [0, -3, 0, 0, 3]),
         tape(3, 7, [0, -3, 0, 0, 3]),
         run(3, 3, 10, 9, [0x1001, 0, 0x3000]),
+        powers(3, 2, 3, 7, 3, 5, [0x1001, 0, 0x4000]),
         reader(3, 4, b"\x2a"),
         search(3, 42),
         joint_fitting(b"\x39", b"\x16"),
@@ -983,6 +1049,9 @@ def at_the_limits():
         yield tape(2, 5, [1] * (600 + more))
         yield run(2, 80 + more, 7, 3, [0x1000])
         yield run(2, 1, 7, 3, [0x1000] * (1100 + more))
+        yield powers(2, 80 + more, 1, 7, 3, 5, [0x1000])
+        yield powers(2, 1, 80 + more, 7, 3, 5, [0x1000])
+        yield powers(2, 1, 1, 7, 3, 5, [0x1000] * (1100 + more))
         yield reader(2, 700 + more, b"\x01")
         yield reader(2, 1, bytes(80 + more))
         yield below(WNAF, 3, 600 + more, 9, b"\x2b", b"\x2a")
@@ -1132,6 +1201,25 @@ def any_run_joint(rng):
     else:
         words = some_words(rng, second.JOINT_WIDTH)
     return run_joint(4 + rng.choice([0, 0, 0, 2, -1]), modulus, g, h, words)
+
+
+def any_powers(rng):
+    """In a whole set or any other, with the true inverse mostly; the tape of a string of the set, of its negative, or any words."""
+    width, largest = rng.choice(second.sets())
+    bits = rng.choice([1, 4, 8, 16, 31, 32])
+    modulus = rng.randrange(2**bits)
+    bases = [rng.randrange(2 ** rng.choice([bits, 32])) for _ in range(8)]
+    base = next((b for b in bases if math.gcd(b, modulus) == 1), bases[0])
+    inverse = rng.randrange(2**32) if modulus == 0 or rng.random() < 0.1 else inverse_of(modulus, base)
+    if modulus != 0 and rng.random() < 0.2:
+        inverse = (inverse + modulus * rng.randrange(4)) % 2**32
+    lent = [second.entries(width, largest) + rng.choice([0, 0, 0, 0, 0, 0, 2, -1]) for _ in range(2)]
+    words = some_words(rng, width)
+    if rng.random() < 0.5:
+        sign = rng.choice([1, -1])
+        words = second.tape_of([sign * d for d in second.form_digits(WNAF, width, scalar_like(rng, rng.randrange(9)), largest=largest)])
+    line = powers(width, *lent, modulus, base, inverse, words)
+    return line if largest == second.whole(width) and rng.randrange(2) else in_set(line, largest)
 
 
 def any_reader(rng):
@@ -1286,7 +1374,7 @@ def salvage_input():
 
 def some_trial_line(rng):
     """A line for the trial program, mostly good."""
-    line = rng.choice([any_recode, any_below, any_check, any_check, any_tape, any_run, any_joint, any_joint, any_run_joint, any_reader, any_search, any_write, any_read, any_read, any_in_set, any_in_set, any_choose, any_lighter])(rng)
+    line = rng.choice([any_recode, any_below, any_check, any_check, any_tape, any_run, any_joint, any_joint, any_run_joint, any_powers, any_powers, any_reader, any_search, any_write, any_read, any_read, any_in_set, any_in_set, any_choose, any_lighter])(rng)
     if rng.randrange(3) == 0:
         line = any_lowest_first(rng, line)
     kind = rng.randrange(40)
@@ -1317,6 +1405,8 @@ def trial_input():
         *run_every_word(),
         *joint_edges(),
         *run_joint_edges(),
+        *powers_edges(),
+        *powers_every_word(),
         *reader_edges(),
         *cross_check(),
         *write_edges(),
@@ -1332,6 +1422,7 @@ def trial_input():
         *run_faults(),
         *joint_faults(),
         *run_joint_faults(),
+        *powers_faults(),
         *frame_faults(),
         *lighter_faults(),
         *small_faults(),

@@ -30,6 +30,8 @@ capitals: every field, then every lent buffer whole. Numbers of more than one by
     06 reader         width 1, calls 2, scalar                              refusal 1, then for each call 01 and the
                                                                             digit, or 0000 for done
     07 search         width 1, number 4                                     refusal 1, weight 1
+    08 powers         width 1, powers lent 2, inverse powers lent 2,        as 05, with the powers lent and the inverse
+                      modulus 4, base 4, inverse 4, tape                    powers lent for the multiples
     09 joint          places lent for a 2, for b 2, words lent 2,           refusal 1, place 2, columns 2, top 2, words 2,
                       length of a 1, a, b                                   doublings 2, additions 2, row a, row b, the
                                                                             words lent
@@ -43,21 +45,22 @@ capitals: every field, then every lent buffer whole. Numbers of more than one by
     11 lighter        width 1, scalar length 1, scalar, first's length 2,   refusal 1, places of the part 2, the part
                       first, second
 
-A digit is one byte in two's complement, a mark word eight bytes, a tape word two, a multiple four. Before the call
-every lent digit is 5A, mark word A5A5A5A5A5A5A5A5, tape word EEEE, multiple DEADBEEF, character of a line 2E. What has
-no stated length runs to the end of the line. A line ends at a line feed; a last line without one counts if not empty.
+A digit is one byte in two's complement, a mark word eight bytes, a tape word two, a multiple and a power four. Before
+the call every lent digit is 5A, mark word A5A5A5A5A5A5A5A5, tape word EEEE, multiple DEADBEEF, power DEADBEEF, inverse
+power C0DEC0DE, character of a line 2E. What has no stated length runs to the end of the line. A line ends at a line
+feed; a last line without one counts if not empty.
 
 With 80 added to the call, 81, 82, 83, 86, 89, 8B, 90 and 91, a scalar's bytes come lowest first; else they come highest first.
 The group order's come highest first in either.
 
-With 40 added to the call, 41 to 45, 4B, C1, C2, C3 and CB, the largest digit (1) of a digit set follows the width; else
-the set is the whole width's.
+With 40 added to the call, 41 to 45, 48, 4B, C1, C2, C3 and CB, the largest digit (1) of a digit set follows the width;
+else the set is the whole width's.
 
 FF answers a line that is no such frame: empty, of odd length, with another character, of another call, without a
 part of a fixed field, of the stated scalar or of the stated first string, with half a tape word at its end, with anything after a search, or with
 a version that is not 1 or 2. FF
 also answers a line that asks for more than the program has: over 600 digits or places, 12 mark words, 1,100 tape
-words (given or lent), 80 multiples, 80 bytes of a scalar or of a group order, 700 reader calls, 3,300 characters of a line (given or lent). So
+words (given or lent), 80 multiples or powers of either, 80 bytes of a scalar or of a group order, 700 reader calls, 3,300 characters of a line (given or lent). So
 the longest frame is that of a line to read: 3,303 bytes, 6,606 characters, and FF answers every longer line.
 """
 
@@ -554,6 +557,39 @@ def run_joint(words, modulus, g, h, multiples):
     return (refusal, place, 0, 0, 0, 0, 0), multiples
 
 
+def power(modulus, base, inverse, value):
+    """The base to the value, or for a negative value the inverse to the positive power."""
+    return pow(base, value, modulus) if value >= 0 else pow(inverse, -value, modulus)
+
+
+def run_powers(width, words, modulus, base, inverse, powers, inverses, largest=None):
+    """refusal, place, power, squarings, multiplications, cost multiplications, cost squarings; powers, inverse powers"""
+    place = 0
+    if bad_width(width):
+        refusal = 2
+    elif largest is not None and bad_set(width, largest):
+        refusal = 22
+    elif modulus == 0:
+        refusal = 12
+    elif len(words) > MOST_WORDS:
+        refusal = 13
+    elif len(powers) < entries(width, largest) or len(inverses) < entries(width, largest):
+        refusal = 14
+    elif bad_words(entries(width, largest), words):
+        refusal, place = 15, min(bad_words(entries(width, largest), words))
+    elif base * inverse % modulus != 1 % modulus:
+        refusal = 17
+    else:
+        count = entries(width, largest)
+        squarings = sum(1 for x in words if code_of(x) == DOUBLE)
+        multiplications = sum(1 for x in words if code_of(x) in (ADD, SUBTRACT))
+        stored, undone = ([pow(b, 2 * e + 1, modulus) for e in range(count)] for b in (base, inverse))
+        costs = [2 * each for each in cost(count)]
+        fields = 0, 0, power(modulus, base, inverse, tape_value(words)), squarings, multiplications, *costs
+        return fields, stored + powers[count:], undone + inverses[count:]
+    return (refusal, place, 0, 0, 0, 0, 0), powers, inverses
+
+
 def reader(width, scalar, calls, order=HIGHEST_FIRST):
     """refusal; what each call gives, a digit or None for done"""
     if bad_width(width):
@@ -745,6 +781,7 @@ def salvage(data):
 
 # ---- the trial program
 LENT_DIGIT, LENT_MARK, LENT_WORD, LENT_MULTIPLE, LENT_CHARACTER = 0x5A, 0xA5A5A5A5A5A5A5A5, 0xEEEE, 0xDEADBEEF, 0x2E
+LENT_POWER, LENT_INVERSE = 0xDEADBEEF, 0xC0DEC0DE
 TRIAL_PLACES, TRIAL_MARKS, TRIAL_WORDS = 600, 12, 1100
 TRIAL_MULTIPLES, TRIAL_BYTES, TRIAL_CALLS = 80, 80, 700
 TRIAL_LINE = 3300
@@ -845,6 +882,15 @@ def trial_run_joint(frame):
     return ran(*run_joint(given_words(frame), modulus, g, h, multiples))
 
 
+def trial_powers(frame):
+    width, largest = frame.set()
+    powers = [LENT_POWER] * frame.number(2, TRIAL_MULTIPLES)
+    inverses = [LENT_INVERSE] * frame.number(2, TRIAL_MULTIPLES)
+    modulus, base, inverse = frame.number(4), frame.number(4), frame.number(4)
+    answer, powers, inverses = run_powers(width, given_words(frame), modulus, base, inverse, powers, inverses, largest)
+    return ran(answer, powers + inverses)
+
+
 def trial_reader(frame):
     width, calls = frame.number(1), frame.number(2, TRIAL_CALLS)
     refusal, given = reader(width, frame.remaining(TRIAL_BYTES), calls, frame.order)
@@ -891,9 +937,9 @@ def trial_lighter(frame):
 
 
 TRIALS = dict(enumerate([trial_recode, trial_check, trial_nonadjacent, trial_tape, trial_run, trial_reader, trial_search], 1))
-TRIALS |= {0x09: trial_joint, 0x0A: trial_run_joint, 0x0B: trial_below, 0x0E: trial_write, 0x0F: trial_read, 0x10: trial_choose, 0x11: trial_lighter}
+TRIALS |= {0x08: trial_powers, 0x09: trial_joint, 0x0A: trial_run_joint, 0x0B: trial_below, 0x0E: trial_write, 0x0F: trial_read, 0x10: trial_choose, 0x11: trial_lighter}
 ON_A_SCALAR = [trial_recode, trial_check, trial_nonadjacent, trial_reader, trial_joint, trial_below, trial_choose, trial_lighter]
-IN_A_SET = [trial_recode, trial_check, trial_nonadjacent, trial_tape, trial_run, trial_below]
+IN_A_SET = [trial_recode, trial_check, trial_nonadjacent, trial_tape, trial_run, trial_powers, trial_below]
 LOWEST = 0x80  # added to the call: a scalar's bytes come lowest first
 BETWEEN = 0x40  # added to the call: the largest digit of a set follows the width
 
@@ -964,6 +1010,28 @@ def check_tapes():
                 assert check(width, scalar, digits) == (0, 0, weight(digits), top(digits))
             assert check(width, scalar, form_digits(WNAF, width, scalar), nonadjacent=True)[0] == 0
             assert reader(width, scalar, 17)[1] == form_digits(WMOF, width, scalar)[::-1]
+
+
+def check_powers():
+    """The run over powers is the walk done with squares and products, an inverse power undoes a power, and empty tapes give 1 modulo m."""
+    for modulus, base, inverse in ((1, 0, 0), (1, 5, 9), (7, 3, 5), (1009, 123, pow(123, -1, 1009)), (2**32 - 1, 2, 2**31)):
+        powers, inverses = ([pow(b, 2 * e + 1, modulus) for e in range(4)] for b in (base, inverse))
+        assert run_powers(4, [], modulus, base, inverse, [9] * 4, [8] * 5)[0] == (0, 0, 1 % modulus, 0, 0, 6, 2)
+        for n in range(0, 65536, 997):
+            for digits in (form_digits(WNAF, 4, n.to_bytes(2, "big")), [-d for d in form_digits(WMOF, 4, n.to_bytes(2, "big"))]):
+                words, reached = tape_of(digits), 1 % modulus
+                for x in words:
+                    reached = {
+                        DOUBLE: reached * reached,
+                        LOAD: powers[entry_of(x)],
+                        LOAD_NEGATED: inverses[entry_of(x)],
+                        ADD: reached * powers[entry_of(x)],
+                        SUBTRACT: reached * inverses[entry_of(x)],
+                    }[code_of(x)] % modulus
+                counts = max(top(digits) - 1, 0), max(weight(digits) - 1, 0)
+                ran = run_powers(4, words, modulus, base, inverse, [9] * 4, [8] * 5)
+                assert ran == ((0, 0, reached, *counts, 6, 2), powers, inverses + [8])
+                assert reached * power(modulus, base, inverse, -worth(digits)) % modulus == 1 % modulus
 
 
 def check_orders():
@@ -1085,6 +1153,7 @@ def own_checks():
     check_forms()
     check_nearest()
     check_tapes()
+    check_powers()
     check_orders()
     check_frames()
     check_salvage()

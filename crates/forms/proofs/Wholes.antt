@@ -18,7 +18,7 @@ use Rattle.meaning.specs.Recoding.{formRules, setFor, rulesWith, groupRules, Re
 use Rattle.meaning.specs.Checking.{worthRules, spacedRules, checkRules, nonadjacentRules, Check}
 use Rattle.meaning.specs.Multiples.{costOf}
 use Rattle.meaning.specs.Taping.{Taped, roomRules, TapeBy, Tape}
-use Rattle.meaning.specs.Running.{Ran, stepRules, multiplesOf, RunBy, Run}
+use Rattle.meaning.specs.Running.{Ran, stepRules, multiplesOf, RunOver, Run}
 use Rattle.meaning.specs.Whole.{RecodeWhole, BelowWhole, CheckWhole, NonadjacentWhole, TapeWhole, RunWhole}
 use Rattle.forms.proofs.Made.{least-pair}
 use Rattle.forms.proofs.Forms.{form-whole}
@@ -84,10 +84,10 @@ module _ (w m : ℕ) (whole : leastWidth ≤ w → w ≤ mostWidth → m ≡ lar
       counted : First (badWidth w ∷ rules (largest w)) (a .refusal) (a .place) → a .refusal ≡ 0 → entries m ≡ entries (largest w)
       counted f z = ap entries (same (clear (badWidth w ∷ rules (largest w)) tt _ _ f z .0))
 
-      by : {xs ys : List Rule} {b c : ℕ} → RunBy xs b ws n g multiples₀ a multiples → First ys (a .refusal) (a .place) → (a .refusal ≡ 0 → b ≡ c) → RunBy ys c ws n g multiples₀ a multiples
+      by : {xs ys : List Rule} {b c : ℕ} → RunOver xs b ws n g multiples₀ a multiples → First ys (a .refusal) (a .place) → (a .refusal ≡ 0 → b ≡ c) → RunOver ys c ws n g multiples₀ a multiples
       by {ys = ys} {b = b} {c = c} t f e = go (ℕ-discrete (a .refusal) 0)
         where
-          go : Dec (a .refusal ≡ 0) → RunBy ys c ws n g multiples₀ a multiples
+          go : Dec (a .refusal ≡ 0) → RunOver ys c ws n g multiples₀ a multiples
           go (yes z) = record {
             first = f;
             residue-is = t .residue-is;

@@ -1,13 +1,12 @@
--- The four entries: stored one by one, each a residue, and each where its word finds it. Assumes nothing.
+-- The four entries: stored one by one, and each a residue. Assumes nothing.
 use mathlib.Core.Path.{_≡_, refl, sym, ap, _∙_}
 use mathlib.Core.List.{List, [], _∷_, _++_}
 use Prim.Native.Nat.{ℕ, zero, suc, _+_, _-_, _%_, _<_, _≤_}
 use native.Mathlib.Nat.{mod-lt, add-mod, mod-add-mod}
 use native.Mathlib.Omega.{arith}
-use lib.ListN.{length, getD, drop, set, List·getD-append}
-use Rattle.forms.proofs.Listed.{listed-length, listed-at}
+use lib.ListN.{length, drop, set}
 use Rattle.meaning.specs.Digits.{listed}
-use Rattle.meaning.specs.JointRunning.{jointCount, jointEntry, jointEntriesOf}
+use Rattle.meaning.specs.JointRunning.{jointEntry, jointEntriesOf}
 
 -- four stores from the front
 pub four-stored : {A : Type 0} (xs : List A) (a b c d : A) → 4 ≤ length xs → set (set (set (set xs 0 a) 1 b) 2 c) 3 d ≡ (a ∷ b ∷ c ∷ d ∷ []) ++ drop 4 xs
@@ -31,13 +30,3 @@ module _ (m g h : ℕ) where
   entry-lt n (suc zero) = mod-lt h n
   entry-lt n (suc (suc zero)) = mod-lt (g + h) n
   entry-lt n (suc (suc (suc e))) = mod-lt (g + (m - h % m)) n
-
-  -- in front of what was lent
-  pub entries-length : length (jointEntriesOf m g h) ≡ jointCount
-  unfolding jointEntriesOf
-  entries-length = listed-length (jointEntry m g h) 0 jointCount
-
-  pub entry-at : (e : ℕ) (rest : List ℕ) → e < jointCount → getD (jointEntriesOf m g h ++ rest) e 0 ≡ jointEntry m g h e
-  unfolding jointEntriesOf
-  entry-at e rest l =
-      List·getD-append (jointEntriesOf m g h) rest 0 e (omega (arith, entries-length)) ∙ listed-at (jointEntry m g h) 0 jointCount e 0 l ∙ ap (jointEntry m g h) (omega arith)

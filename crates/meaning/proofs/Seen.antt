@@ -19,6 +19,7 @@ use Rattle.meaning.specs.Words.{stepOf}
 use Rattle.meaning.specs.Walks.{taken, walked, wholes, tapeValue, doublings, additions}
 use Rattle.meaning.specs.Multiples.{makingOf, made, madeFrom, costDoublings, costAdditions, costOf}
 use Rattle.meaning.specs.Taping.{moves, down, tapeOf}
+use Rattle.meaning.specs.Powering.{power, powersOf}
 use Rattle.meaning.specs.Joint.{column, columnsOf}
 use Rattle.meaning.specs.JointRunning.{pairAt, pairValue, jointEntry, jointEntriesOf}
 use Rattle.meaning.specs.Choosing.{Allowed, totalOf}
@@ -140,6 +141,23 @@ four-made = refl
 four-cost : costOf 4 ≡ record { doublings = 1; additions = 3 }
 unfolding makingOf costDoublings costAdditions
 four-cost = refl
+
+-- modulo 7, 5 is the inverse of 3: 3 to the 2 is 2, 3 to the -2 is 5 to the 2, and the odd powers of 3 are 3, 6, 5
+two-up : power 7 3 5 (pos 2) ≡ 2
+unfolding power
+two-up = refl
+
+two-down : power 7 3 5 (negsuc 1) ≡ 4
+unfolding power
+two-down = refl
+
+none-up : power 1 0 0 (pos 0) ≡ 0
+unfolding power
+none-up = refl
+
+three-powers : powersOf 3 7 3 ≡ 3 ∷ 6 ∷ 5 ∷ []
+unfolding powersOf listed
+three-powers = refl
 
 one-cost : costOf 1 ≡ record { doublings = 0; additions = 0 }
 unfolding makingOf costDoublings costAdditions

@@ -1,17 +1,16 @@
 -- The joint run of a tape over residues modulo m: its words stand for g, h, g + h and g - h, and it reaches the residue of A g + B h, where A and B are the two values
 -- that the words leave. Assumes nothing.
 use mathlib.Core.Path.{_≡_}
-use mathlib.Core.Logic.{_≢_}
-use mathlib.Core.List.{List, [], _∷_, _++_}
+use mathlib.Core.List.{List, [], _∷_}
 use Prim.Native.Nat.{ℕ, zero, suc, _+_, _-_, _%_, _<_}
 use lib.IntN.{ℤ, pos, negℤ, _+ℤ_, _*ℤ_}
-use lib.ListN.{length, drop}
+use lib.ListN.{length}
 use Rattle.meaning.specs.Digits.{listed}
-use Rattle.meaning.specs.Refusals.{Rule, plain, lowest, First, granted, kept}
+use Rattle.meaning.specs.Refusals.{Rule, plain, lowest}
 use Rattle.meaning.specs.Words.{mostWords}
-use Rattle.meaning.specs.Walks.{Carrier, Table, bySign, walk, doublings, additions}
+use Rattle.meaning.specs.Walks.{Carrier, Table, bySign, walk}
 use Rattle.meaning.specs.Multiples.{Cost}
-use Rattle.meaning.specs.Running.{BadWord, Residue, Ran}
+use Rattle.meaning.specs.Running.{BadWord, Ran, times, RunBy}
 
 -- ---- a tape's two values: how often g is taken, and h
 pub record Pair : Type 0 where
@@ -71,12 +70,6 @@ runJointRules ws m room =
     ∷ []
 
 -- what it answers is what a run answers; and the buffer of entries afterwards
-pub record RunJoint (ws : List ℕ) (m g h : ℕ) (entries₀ : List ℕ) (a : Ran) (entries : List ℕ) : Type 0 where
-  pub first : First (runJointRules ws m (length entries₀)) (a .refusal) (a .place)
-  pub residue-is : a .refusal ≡ 0 → Residue m (jointly (pos g) (pos h) (pairValue ws)) (a .residue)
-  pub residue-none : a .refusal ≢ 0 → a .residue ≡ 0
-  pub doublings-are : a .doublings ≡ granted (a .refusal) (doublings ws)
-  pub additions-are : a .additions ≡ granted (a .refusal) (additions ws)
-  pub cost-doublings-are : a .cost .doublings ≡ granted (a .refusal) (jointCost .doublings)
-  pub cost-additions-are : a .cost .additions ≡ granted (a .refusal) (jointCost .additions)
-  pub entries-are : entries ≡ kept (a .refusal) (jointEntriesOf m g h ++ drop jointCount entries₀) entries₀
+abbrev pub RunJoint : (ws : List ℕ) (m g h : ℕ) (entries₀ : List ℕ) (a : Ran) (entries : List ℕ) → Type 0
+RunJoint ws m g h entries₀ a entries =
+    RunBy (runJointRules ws m (length entries₀)) jointCount ws m (times (pairValue ws .first) g ∷ times (pairValue ws .second) h ∷ []) jointCost (jointEntriesOf m g h) entries₀ a entries

@@ -17,6 +17,7 @@ pub mod Walks
 pub mod Multiples
 pub mod Taping
 pub mod Running
+pub mod Powering
 pub mod Joint
 pub mod Joining
 pub mod JointRunning

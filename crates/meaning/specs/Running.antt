@@ -44,16 +44,29 @@ pub record Ran : Type 0 where
   pub additions : ℕ
   pub cost : Cost
 
--- by these rules, with `count` multiples, and the buffer of multiples afterwards
-pub record RunBy (rules : List Rule) (count : ℕ) (ws : List ℕ) (m g : ℕ) (multiples₀ : List ℕ) (a : Ran) (multiples : List ℕ) : Type 0 where
+-- what a tape comes to: how often it takes a base, and the sum where there is more than one
+pub data Taking : Type 0 where
+  times : ℤ → (base : ℕ) → Taking
+
+abbrev pub total : List Taking → ℤ
+total [] = pos 0
+total (times z g ∷ []) = z *ℤ pos g
+total (times z g ∷ t ∷ ts) = z *ℤ pos g +ℤ total (t ∷ ts)
+
+-- by these rules, over `count` stored entries which cost so much; and the buffer afterwards
+pub record RunBy (rules : List Rule) (count : ℕ) (ws : List ℕ) (m : ℕ) (sum : List Taking) (cost : Cost) (stored multiples₀ : List ℕ) (a : Ran) (multiples : List ℕ) : Type 0 where
   pub first : First rules (a .refusal) (a .place)
-  pub residue-is : a .refusal ≡ 0 → Residue m (tapeValue ws *ℤ pos g) (a .residue)
+  pub residue-is : a .refusal ≡ 0 → Residue m (total sum) (a .residue)
   pub residue-none : a .refusal ≢ 0 → a .residue ≡ 0
   pub doublings-are : a .doublings ≡ granted (a .refusal) (doublings ws)
   pub additions-are : a .additions ≡ granted (a .refusal) (additions ws)
-  pub cost-doublings-are : a .cost .doublings ≡ granted (a .refusal) (costOf count .doublings)
-  pub cost-additions-are : a .cost .additions ≡ granted (a .refusal) (costOf count .additions)
-  pub multiples-are : multiples ≡ kept (a .refusal) (multiplesOf count m g ++ drop count multiples₀) multiples₀
+  pub cost-doublings-are : a .cost .doublings ≡ granted (a .refusal) (cost .doublings)
+  pub cost-additions-are : a .cost .additions ≡ granted (a .refusal) (cost .additions)
+  pub multiples-are : multiples ≡ kept (a .refusal) (stored ++ drop count multiples₀) multiples₀
+
+-- over the multiples of one base, which is taken as often as the tape's value says
+abbrev pub RunOver : (rules : List Rule) (count : ℕ) (ws : List ℕ) (m g : ℕ) (multiples₀ : List ℕ) (a : Ran) (multiples : List ℕ) → Type 0
+RunOver rules count ws m g multiples₀ a multiples = RunBy rules count ws m (times (tapeValue ws) g ∷ []) (costOf count) (multiplesOf count m g) multiples₀ a multiples
 
 abbrev pub Run : (w l : ℕ) (ws : List ℕ) (m g : ℕ) (multiples₀ : List ℕ) (a : Ran) (multiples : List ℕ) → Type 0
-Run w l ws m g multiples₀ a multiples = RunBy (runRules w l ws m (length multiples₀)) (entries l) ws m g multiples₀ a multiples
+Run w l ws m g multiples₀ a multiples = RunOver (runRules w l ws m (length multiples₀)) (entries l) ws m g multiples₀ a multiples

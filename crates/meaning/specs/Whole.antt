@@ -11,7 +11,7 @@ use Rattle.meaning.specs.Refusals.{Rule, badWidth}
 use Rattle.meaning.specs.Recoding.{rulesWith, groupRules, RecodeBy}
 use Rattle.meaning.specs.Checking.{worthRules, spacedRules, Check}
 use Rattle.meaning.specs.Taping.{Taped, roomRules, TapeBy}
-use Rattle.meaning.specs.Running.{Ran, stepRules, RunBy}
+use Rattle.meaning.specs.Running.{Ran, stepRules, RunOver}
 
 -- recode: 1, 2, 3, 4, 5
 abbrev pub wholeRules : (form w : ℕ) (s : List ℕ) (places words : ℕ) → List Rule
@@ -38,4 +38,4 @@ TapeWhole w ds words₀ a words = TapeBy (badWidth w ∷ roomRules (largest w) d
 
 -- run: 2, 12, 13, 14, 15
 abbrev pub RunWhole : (w : ℕ) (ws : List ℕ) (m g : ℕ) (multiples₀ : List ℕ) (a : Ran) (multiples : List ℕ) → Type 0
-RunWhole w ws m g multiples₀ a multiples = RunBy (badWidth w ∷ stepRules (entries (largest w)) ws m (length multiples₀)) (entries (largest w)) ws m g multiples₀ a multiples
+RunWhole w ws m g multiples₀ a multiples = RunOver (badWidth w ∷ stepRules (entries (largest w)) ws m (length multiples₀)) (entries (largest w)) ws m g multiples₀ a multiples

@@ -32,7 +32,7 @@ pub record Costs (l : ℕ) (c : Cost) : Type 0 where
   pub doubling-least : l ≡ 1 → c .doublings ≡ 0
 
 -- what `costOf` counts is that
-set-costs : (l : ℕ) → l % 2 ≡ 1 → Costs l (costOf (entries l))
+pub set-costs : (l : ℕ) → l % 2 ≡ 1 → Costs l (costOf (entries l))
 set-costs l odd = go (decLt 1 l)
   where
     go : Dec (1 < l) → Costs l (costOf (entries l))

@@ -8,10 +8,9 @@ use Prim.Native.Nat.{ℕ, zero, suc, _+_, _-_, _%_, _^_, _<_, _≤_}
 use native.Mathlib.Omega.{arith}
 use native.Mathlib.Decide.{decLt, decLe, ℕ-discrete}
 use lib.Dec.{T}
-use lib.IntN.{ℤ, pos, _*ℤ_, ℤ-discrete}
+use lib.IntN.{ℤ, pos, ℤ-discrete}
 use lib.ListN.{length, getD, drop, List·getD-eq-default}
 use Rattle.laws.proofs.Choices.{not-below}
-use Rattle.laws.proofs.Division.{floor}
 use Rattle.meaning.specs.Scalars.{Order, highestFirst, number, bitCount}
 use Rattle.meaning.specs.Digits.{leastWidth, mostWidth, largest, entries, inSet, worth, weight, top, mostPlaces, Tally}
 use Rattle.meaning.specs.Sets.{Pair}
@@ -20,10 +19,10 @@ use Rattle.meaning.specs.Refusals.{Rule, plain, lowest, numberOf, Lowest, Appli
 use Rattle.meaning.specs.Recoding.{markWords, marksOf, setFor, rulesWith, recodeRules, groupRules, belowRules}
 use Rattle.meaning.specs.Checking.{BadDigit, badDigit, Crowded, checkRules, nonadjacentRules}
 use Rattle.meaning.specs.Words.{codeOf, entryOf}
-use Rattle.meaning.specs.Walks.{tapeValue, doublings, additions, IsLoad, Good}
+use Rattle.meaning.specs.Walks.{tapeValue, IsLoad, Good}
 use Rattle.meaning.specs.Multiples.{costOf}
 use Rattle.meaning.specs.Taping.{tapeOf, tapeRules}
-use Rattle.meaning.specs.Running.{BadWord, multiplesOf, runRules, Run, Ran}
+use Rattle.meaning.specs.Running.{BadWord, multiplesOf, runRules, Ran, times, Run}
 use Rattle.meaning.specs.Hexadecimal.{bytesOf}
 use Rattle.meaning.specs.Frames.{Version, lineOf, writeRules, Framed, Write, weightIn, topIn, placesIn, digitsIn, stated, unreadable, unfit, readRules, Parsed, Read}
 use Rattle.forms.proofs.Refusals.{clear, first-only}
@@ -35,6 +34,7 @@ use Rattle.promises.proofs.Below as Below
 use Rattle.promises.proofs.Below.{below-fine, without-group}
 use Rattle.promises.proofs.Tape as Taping
 use Rattle.promises.proofs.Check as Checking
+use Rattle.promises.proofs.Run.{by-kept}
 
 -- ---- rules that can be decided
 -- the rule applies at some place, or fails
@@ -118,7 +118,7 @@ true? : (b : Bool) → Dec (T b)
 true? true = yes tt
 true? false = no (λ t. t)
 
-width? : (w : ℕ) → Decided (badWidth w)
+pub width? : (w : ℕ) → Decided (badWidth w)
 width? w = by (or? (decLt w leastWidth) (decLt mostWidth w))
 
 pair? : (w l : ℕ) → Dec (Pair w l)
@@ -129,7 +129,7 @@ pair? w l =
     go (yes ((a, (b, (c, d))), (e, f))) = yes (record { between = record { wide = a; odd = b; least = c; most = d }; most = e; above = f })
     go (no n) = no (λ p. let b = p .between in n ((b .wide, (b .odd, (b .least, b .most))), (p .most, p .above)))
 
-set? : (w l : ℕ) → Decided (badSet w l)
+pub set? : (w l : ℕ) → Decided (badSet w l)
 set? w l = by (not? (pair? w l))
 
 bad? : (m : ℕ) (ds : List ℤ) → Decided (badDigit m ds)
@@ -280,47 +280,9 @@ word? count ws = among (BadWord count ws) one (length ws) (λ p b. b .within)
 pub run-kept-by : (w l : ℕ) (ws : List ℕ) (m g : ℕ) (multiples₀ : List ℕ) → (a : Ran) × (multiples : List ℕ) × Run w l ws m g multiples₀ a multiples
 run-kept-by w l ws m g multiples₀ =
     let count = entries l in
+    let rules = runRules w l ws m (length multiples₀) in
     let (r, p, f) = first-exists rules (width? w, λ _. (set? w l, λ _. (by (ℕ-discrete m 0), λ _. (by (decLt 1057 (length ws)), λ _. (by (decLt (length multiples₀) count), λ _. (word? count ws, λ _. tt)))))) in
-    go r p f
-  where
-    rules : List Rule
-    rules = runRules w l ws m (length multiples₀)
-
-    go : (r p : ℕ) → First rules r p → (a : Ran) × (multiples : List ℕ) × Run w l ws m g multiples₀ a multiples
-    go zero p f =
-        let count = entries l in
-        let (_, (_, (some, _))) = clear rules tt 0 p f refl in
-        let F = floor (tapeValue ws *ℤ pos g) m (positive some) in (
-          record { refusal = 0; place = p; residue = F .rem; doublings = doublings ws; additions = additions ws; cost = costOf count },
-          multiplesOf count m g ++ drop count multiples₀,
-          record {
-            first = f;
-            residue-is = λ _. record { quotient = F .quo; is = F .is; least = F .below };
-            residue-none = λ n. absurd (n refl);
-            doublings-are = refl;
-            additions-are = refl;
-            cost-doublings-are = refl;
-            cost-additions-are = refl;
-            multiples-are = refl;
-          },
-        )
-      where
-        positive : (m ≡ 0 → ⊥) → 0 < m
-        positive n = not-below (λ h. n (omega arith))
-    go (suc r) p f = (
-      record { refusal = suc r; place = p; residue = 0; doublings = 0; additions = 0; cost = record { doublings = 0; additions = 0 } },
-      multiples₀,
-      record {
-        first = f;
-        residue-is = λ z. absurd (omega arith);
-        residue-none = λ _. refl;
-        doublings-are = refl;
-        additions-are = refl;
-        cost-doublings-are = refl;
-        cost-additions-are = refl;
-        multiples-are = refl;
-      },
-    )
+    by-kept rules count ws m (times (tapeValue ws) g ∷ []) (costOf count) (multiplesOf count m g) multiples₀ r p f (λ z. clear rules tt r p f z .1 .1 .0)
 
 -- ---- frames
 pub write-kept-by : (v : Version) (ds : List ℤ) (out₀ : List ℕ) → (o : Framed × List ℕ) × Write v ds out₀ (o .0) (o .1)

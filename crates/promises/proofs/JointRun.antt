@@ -1,29 +1,28 @@
 -- The promise of the joint run: two outcomes that satisfy it for one input are equal, on the plain numbers, on the enum of the answer and on C's struct; each number exactly when; a
 -- refusal leaves the buffer; what the entries cost. Some outcome keeps it at every input. Assumes nothing.
-use mathlib.Core.Path.{_≡_, refl, sym, ap, _∙_}
+use mathlib.Core.Path.{_≡_, refl, _∙_}
 use mathlib.Core.Logic.{_≢_}
-use mathlib.Core.List.{List, [], _∷_, _++_}
+use mathlib.Core.List.{List, [], _∷_}
 use Prim.Native.Nat.{ℕ, zero, suc, _<_}
 use native.Mathlib.Decide.{decLt, ℕ-discrete}
 use native.Mathlib.Omega.{arith}
 use lib.Dec.{lit<, lit≤}
-use lib.IntN.{ℤ, pos}
-use lib.ListN.{length, getD, drop}
-use Rattle.laws.proofs.Choices.{not-below}
-use Rattle.laws.proofs.Division.{floor}
-use Rattle.meaning.specs.Refusals.{Rule, First, granted, kept}
+use lib.IntN.{pos}
+use lib.ListN.{length, getD}
+use Rattle.meaning.specs.Refusals.{Rule}
 use Rattle.meaning.specs.Words.{mostWords, stepOf}
 use Rattle.meaning.specs.Walks.{taken, walked, doublings, additions, Good}
 use Rattle.meaning.specs.Running as Running
+use Rattle.meaning.specs.Running.{Taking, times}
 use Rattle.meaning.specs.JointRunning.{jointCount, pairAt, pairValue, jointly, jointEntriesOf, jointCost, runJointRules, RunJoint}
-use Rattle.forms.proofs.Refusals.{first-only, clear, granted-all, kept-lent}
+use Rattle.forms.proofs.Refusals.{clear, granted-all, kept-lent}
 use Rattle.run.specs.declared.Ran.{Ran}
 use Rattle.run.specs.Outcomes.{answer}
 use Rattle.joined.specs.Promises.{Promise}
 use Rattle.sarvundole.specs.declared.exported.Ran as Exported
 use Rattle.sarvundole.specs.Runs.{ran}
 use Rattle.promises.proofs.Exactly.{Exactly, exactly}
-use Rattle.promises.proofs.Run.{residue-same, ran-same, enum-same}
+use Rattle.promises.proofs.Run.{residue-same, enum-same, by-same, by-kept}
 use Rattle.promises.proofs.Exported.{c-ran-same}
 use Rattle.promises.proofs.Instances.{first-exists, by, word?}
 
@@ -31,24 +30,11 @@ module _ (ws : List ℕ) (m g h : ℕ) (entries₀ : List ℕ) where
   abbrev rules : List Rule
   rules = runJointRules ws m (length entries₀)
 
-  -- the whole number whose residue is reached
-  abbrev value : ℤ
-  value = jointly (pos g) (pos h) (pairValue ws)
+  abbrev sum : List Taking
+  sum = times (pairValue ws .first) g ∷ times (pairValue ws .second) h ∷ []
 
   pub run-joint-plain : (a b : Running.Ran) (es fs : List ℕ) → RunJoint ws m g h entries₀ a es → RunJoint ws m g h entries₀ b fs → (a ≡ b) × (es ≡ fs)
-  run-joint-plain a b es fs K L =
-      let (r, p) = first-only rules (K .first) (L .first) in (
-        ran-same a b r p (same r (ℕ-discrete (a .refusal) 0))
-            (K .doublings-are ∙ ap (λ t. granted t (doublings ws)) r ∙ sym (L .doublings-are))
-            (K .additions-are ∙ ap (λ t. granted t (additions ws)) r ∙ sym (L .additions-are))
-            (K .cost-doublings-are ∙ ap (λ t. granted t (jointCost .doublings)) r ∙ sym (L .cost-doublings-are))
-            (K .cost-additions-are ∙ ap (λ t. granted t (jointCost .additions)) r ∙ sym (L .cost-additions-are)),
-        K .entries-are ∙ ap (λ t. kept t (jointEntriesOf m g h ++ drop jointCount entries₀) entries₀) r ∙ sym (L .entries-are),
-      )
-    where
-      same : a .refusal ≡ b .refusal → Dec (a .refusal ≡ 0) → a .residue ≡ b .residue
-      same e (yes z) = residue-same m value (a .residue) (b .residue) (K .residue-is z) (L .residue-is (sym e ∙ z))
-      same e (no n) = K .residue-none n ∙ sym (L .residue-none (λ z. n (e ∙ z)))
+  run-joint-plain = by-same rules jointCount ws m sum jointCost (jointEntriesOf m g h) entries₀
 
   -- on the enum of the answer
   pub run-joint-determined : (a b : Ran) (es fs : List ℕ) → Promise ws m g h entries₀ a es → Promise ws m g h entries₀ b fs → (a ≡ b) × (es ≡ fs)
@@ -63,7 +49,7 @@ module _ (ws : List ℕ) (m g h : ℕ) (entries₀ : List ℕ) where
   run-joint-exactly a es K = exactly rules tt _ _ (K .first)
 
   pub run-joint-kept : (a : Running.Ran) (es : List ℕ) → RunJoint ws m g h entries₀ a es → a .refusal ≢ 0 → es ≡ entries₀
-  run-joint-kept a es K n = K .entries-are ∙ kept-lent (a .refusal) _ entries₀ n
+  run-joint-kept a es K n = K .multiples-are ∙ kept-lent (a .refusal) _ entries₀ n
 
   -- ---- two additions for the entries, and no doubling
   pub run-joint-costs : (a : Running.Ran) (es : List ℕ) → RunJoint ws m g h entries₀ a es → a .refusal ≡ 0 → (a .cost .additions ≡ 2) × (a .cost .doublings ≡ 0)
@@ -73,42 +59,7 @@ module _ (ws : List ℕ) (m g h : ℕ) (entries₀ : List ℕ) where
   pub run-joint-kept-by : (a : Running.Ran) × (es : List ℕ) × RunJoint ws m g h entries₀ a es
   run-joint-kept-by =
       let (r, p, f) = first-exists rules (by (ℕ-discrete m 0), λ _. (by (decLt mostWords (length ws)), λ _. (by (decLt (length entries₀) jointCount), λ _. (word? jointCount ws, λ _. tt)))) in
-      go r p f
-    where
-      go : (r p : ℕ) → First rules r p → (a : Running.Ran) × (es : List ℕ) × RunJoint ws m g h entries₀ a es
-      go zero p f =
-          let (some, _) = clear rules tt 0 p f refl in
-          let F = floor value m (positive some) in (
-            record { refusal = 0; place = p; residue = F .rem; doublings = doublings ws; additions = additions ws; cost = jointCost },
-            jointEntriesOf m g h ++ drop jointCount entries₀,
-            record {
-              first = f;
-              residue-is = λ _. record { quotient = F .quo; is = F .is; least = F .below };
-              residue-none = λ n. absurd (n refl);
-              doublings-are = refl;
-              additions-are = refl;
-              cost-doublings-are = refl;
-              cost-additions-are = refl;
-              entries-are = refl;
-            },
-          )
-        where
-          positive : (m ≡ 0 → ⊥) → 0 < m
-          positive n = not-below (λ l. n (omega arith))
-      go (suc r) p f = (
-        record { refusal = suc r; place = p; residue = 0; doublings = 0; additions = 0; cost = record { doublings = 0; additions = 0 } },
-        entries₀,
-        record {
-          first = f;
-          residue-is = λ z. absurd (omega arith);
-          residue-none = λ _. refl;
-          doublings-are = refl;
-          additions-are = refl;
-          cost-doublings-are = refl;
-          cost-additions-are = refl;
-          entries-are = refl;
-        },
-      )
+      by-kept rules jointCount ws m sum jointCost (jointEntriesOf m g h) entries₀ r p f (λ z. clear rules tt r p f z .0)
 
 -- ---- calls that cannot keep the promise
 -- an outcome for every input which keeps the promise

@@ -187,7 +187,7 @@ module _ (w l : ℕ) (ds : List ℤ) (ws : List ℕ) (m g x doubled added : ℕ)
   none-bad : (q : ℕ) → BadDigit l ds q → ⊥
   none-bad q b = T-not (inSet l (getD ds q (pos 0))) (b .bad) (all-at l ds (S .in-set) q (b .within))
 
-  all-good : (q : ℕ) → BadWord (entries l) ws q → ⊥
+  pub all-good : (q : ℕ) → BadWord (entries l) ws q → ⊥
   all-good q b =
       let c : BadWord (entries l) (tapeOf ds) q = subst (λ v. BadWord (entries l) v q) (sym (S .words-are)) b in
       c .bad (tape-good l (pair-sized (S .pair) .0) (pair-sized (S .pair) .1) ds (S .in-set) q (c .within))

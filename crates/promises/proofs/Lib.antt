@@ -6,6 +6,7 @@ pub mod Known
 pub mod Slips
 pub mod Tape
 pub mod Run
+pub mod Powers
 pub mod Search
 pub mod Reader
 pub mod Check

@@ -89,7 +89,7 @@ pub struct Cost {
     pub additions: u16,
 }
 
-fn cost_of(count: usize) -> Cost
+pub fn cost_of(count: usize) -> Cost
     requires { ⌜ count ≤ 64 ⌝ }
     ensures { λ r. ⌜ (r .doublings ≡ costOf count .doublings) × (r .additions ≡ costOf count .additions) ⌝ }
 {

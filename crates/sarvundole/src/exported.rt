@@ -5,6 +5,7 @@ ghost use Rattle.meaning.specs.Recoding.{Recode, RecodeBelow};
 ghost use Rattle.meaning.specs.Checking.{checkRules, nonadjacentRules, Check};
 ghost use Rattle.meaning.specs.Taping.{Tape};
 ghost use Rattle.meaning.specs.Running.{Run};
+ghost use Rattle.meaning.specs.Powering.{Powers};
 ghost use Rattle.meaning.specs.Searching.{Search};
 ghost use Rattle.meaning.specs.Choosing.{Choose};
 ghost use Rattle.meaning.specs.Lighter.{Pick};
@@ -175,6 +176,21 @@ pub extern "C" fn sarvundole_run(
     ensures { λ r. ⌜ Run (set .width) (set .largest) (now (tape .entry)) modulus base (now (multiples .entry)) (ran r) (now (multiples .exit)) ⌝ }
 {
     reported(run::run(set, tape, modulus, base, multiples))
+}
+
+#[no_mangle]
+pub extern "C" fn sarvundole_run_powers(
+    set: DigitSet,
+    tape: &[u16],
+    modulus: u32,
+    base: u32,
+    inverse: u32,
+    powers: &mut [u32],
+    inverses: &mut [u32],
+) -> Ran
+    ensures { λ r. ⌜ Powers (set .width) (set .largest) (now (tape .entry)) modulus base inverse (now (powers .entry)) (now (inverses .entry)) (ran r) (now (powers .exit)) (now (inverses .exit)) ⌝ }
+{
+    reported(powers::run_powers(set, tape, modulus, base, inverse, powers, inverses))
 }
 
 // What a call of the reader gives, in plain numbers.

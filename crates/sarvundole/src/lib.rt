@@ -19,6 +19,7 @@ pub use lighter::Picked;
 pub use lighter::lighter;
 pub use lighter::lighter_refusal;
 pub use lighter::pick;
+pub use powers::run_powers;
 pub use reader::Next;
 pub use reader::Reader;
 pub use reader::Reading;

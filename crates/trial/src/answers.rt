@@ -6,6 +6,7 @@ use crate::framing;
 use crate::joining;
 use crate::jointly;
 use crate::parsing;
+use crate::powering;
 use crate::print;
 use crate::reading;
 use crate::recoding;
@@ -38,6 +39,7 @@ fn call(frame: &[u8], out: &mut [u8]) -> usize
         0x05 => running::answer(false, frame, out),
         0x06 => reading::answer(Order::HighestFirst, frame, out),
         0x07 => searching::answer(frame, out),
+        0x08 => powering::answer(false, frame, out),
         0x09 => joining::answer(Order::HighestFirst, frame, out),
         0x0A => jointly::answer(frame, out),
         0x0B => bounding::answer(false, Order::HighestFirst, frame, out),
@@ -50,6 +52,7 @@ fn call(frame: &[u8], out: &mut [u8]) -> usize
         0x43 => checking::answer(true, true, Order::HighestFirst, frame, out),
         0x44 => taping::answer(true, frame, out),
         0x45 => running::answer(true, frame, out),
+        0x48 => powering::answer(true, frame, out),
         0x4B => bounding::answer(true, Order::HighestFirst, frame, out),
         0x81 => recoding::answer(false, Order::LowestFirst, frame, out),
         0x82 => checking::answer(false, false, Order::LowestFirst, frame, out),

@@ -32,3 +32,10 @@ pub fn multiples() -> [u32; asked::MULTIPLES]
 {
     [0xDEAD_BEEF; asked::MULTIPLES]
 }
+
+// The powers of an inverse; those of a base are lent as multiples are.
+pub fn inverses() -> [u32; asked::MULTIPLES]
+    ensures { λ r. ⌜ 80 ≡ length r ⌝ }
+{
+    [0xC0DE_C0DE; asked::MULTIPLES]
+}

@@ -11,6 +11,7 @@ mod joining;
 mod jointly;
 mod lent;
 mod parsing;
+mod powering;
 mod print;
 mod reading;
 mod recoding;

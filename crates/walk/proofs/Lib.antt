@@ -4,5 +4,7 @@ pub mod Steps
 pub mod Lengths
 pub mod Tapes
 pub mod Residues
+pub mod Powers
 pub mod Pairs
 pub mod Multiples
+pub mod Storing

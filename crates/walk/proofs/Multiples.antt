@@ -47,3 +47,10 @@ unfolding makingOf costDoublings costAdditions
 cost-more zero h = absurd (omega arith)
 cost-more (suc zero) h = absurd (omega arith)
 cost-more (suc (suc n)) h = (ap suc (on-doublings (suc n)), omega (arith, on-additions (suc n)))
+
+-- so few of either
+pub cost-few : (count : ℕ) → (costOf count .doublings ≤ 1) × (costOf count .additions ≤ count)
+unfolding makingOf costDoublings costAdditions
+cost-few zero = (omega arith, omega arith)
+cost-few (suc zero) = (omega arith, omega arith)
+cost-few (suc (suc n)) = (omega (arith, on-doublings (suc n)), omega (arith, on-additions (suc n)))

@@ -1,3 +1,4 @@
 -- What the contracts of the runs cite beside `meaning`.
 pub mod Steps
 pub mod Residues
+pub mod Powers

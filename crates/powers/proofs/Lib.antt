@@ -1,0 +1,3 @@
+pub mod OddPowers
+pub mod Refusals
+pub mod Together
