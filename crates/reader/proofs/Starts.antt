@@ -1,12 +1,14 @@
 -- A reader's state before any call, by the rule that refuses it or by none.
 -- Assumes nothing.
-use mathlib.Core.Path.{_≡_, refl}
+use mathlib.Core.Path.{_≡_, refl, subst}
+use mathlib.Core.Logic.{_≢_, _⊎_, inl, inr}
 use mathlib.Core.List.{List}
-use Prim.Native.Nat.{ℕ, suc, _+_, _≤_}
+use Prim.Native.Nat.{ℕ, suc, _+_, _≤_, _<_}
 use native.Mathlib.Omega.{arith}
 use lib.ListN.{length}
 use Rattle.laws.proofs.Choices.{not-below}
 use Rattle.meaning.specs.Scalars.{Order, codeOf, bitCount, mostBytes}
+use Rattle.meaning.specs.Digits.{leastWidth, mostWidth}
 use Rattle.meaning.specs.Reading.{readerRules, Holds}
 use Rattle.forms.proofs.Refusals.{Until, numberAt, first-at, first-none, clear}
 use Rattle.width.specs.Widths.{Wide}
@@ -31,3 +33,8 @@ held-wide w s h = wide-of w (clear (readerRules w s) tt 0 0 h refl .0)
 
 pub held-short : (w : ℕ) (s : List ℕ) → Holds w s 0 → length s ≤ mostBytes
 held-short w s h = not-below (clear (readerRules w s) tt 0 0 h refl .1 .0)
+
+-- so where there is no width something is refused
+pub bad-refused : (w : ℕ) (s : List ℕ) {r : ℕ} → Holds w s r → (w < leastWidth) ⊎ (mostWidth < w) → r ≢ 0
+bad-refused w s h (inl b) z = let wide = held-wide w s (subst (λ x. Holds w s x) z h) in omega (arith, wide .0)
+bad-refused w s h (inr b) z = let wide = held-wide w s (subst (λ x. Holds w s x) z h) in omega (arith, wide .1)

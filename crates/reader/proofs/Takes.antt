@@ -1,19 +1,28 @@
 -- What a call takes, case by case.
 -- Assumes nothing.
-use mathlib.Core.Path.{_≡_, _∙_}
+use mathlib.Core.Path.{_≡_, refl, _∙_}
 use mathlib.Core.Logic.{_≢_, _⊎_, inl, inr}
 use mathlib.Core.List.{List}
 use Prim.Native.Nat.{ℕ, suc, _-_, _≤_, _<_}
 use native.Mathlib.Omega.{arith}
+use lib.Dec.{eqb}
 use lib.IntN.{ℤ, pos}
 use borrow.Author.Tests.{lt-ltb, le-ltb, le-leb, lt-leb, eq-eqb, ne-eqb}
+use Rattle.laws.proofs.Choices.{either}
 use Rattle.meaning.specs.Scalars.{Order, number, bit, below}
 use Rattle.meaning.specs.Digits.{leastWidth, mostWidth, mostPlaces}
 use Rattle.meaning.specs.Windows.{oddPart}
 use Rattle.meaning.specs.Wmof.{windowAt, spot}
 use Rattle.width.specs.Widths.{Wide}
 use Rattle.reader.specs.declared.Taken.{Taken}
-use Rattle.reader.specs.States.{passed, opened, ended, fresh, taken}
+use Rattle.reader.specs.declared.Next.the-variants.{Digit}
+use Rattle.reader.specs.States.{digitAt, passed, opened, ended, fresh, taken}
+
+-- t passes place i, in a window down to its floor
+pub record Passes (i : ℕ) (t : Taken) : Type 0 where
+  pub next-is : t .next ≡ Digit (digitAt i (t .pending) (t .spot))
+  pub place-is : t .place ≡ i
+  pub floor-le : t .floor ≤ i
 
 -- ---- where no window is open
 module _ (w N i : ℕ) where
@@ -27,6 +36,12 @@ module _ (w N i : ℕ) where
       → r ≡ opened w N i
   unfolding opened
   opened-some t d e k l = t ∙ rw (e, k, l) (simp (ne-eqb _ _ d))
+
+  -- either way place i is passed, and where the window ends is no higher
+  pub opened-passes : Wide w → Passes i (opened w N i)
+  unfolding opened
+  opened-passes l =
+      either (Passes i) (eqb (bit N i) (below N i)) (λ _. record { next-is = refl; place-is = refl; floor-le = omega arith }) (λ _. record { next-is = refl; place-is = refl; floor-le = omega (arith, l .0) })
 
 module _ (o : Order) (s : List ℕ) (m w : ℕ) (d : ℤ) (p f : ℕ) where
   -- one can open

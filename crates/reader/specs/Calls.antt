@@ -2,7 +2,7 @@
 -- Assumes nothing.
 use mathlib.Core.Path.{_≡_}
 use mathlib.Core.List.{List}
-use Prim.Native.Nat.{ℕ, suc}
+use Prim.Native.Nat.{ℕ, suc, _-_}
 use denote.Ref.{RefT, now}
 use Rattle.meaning.specs.Scalars.{Order}
 use Rattle.meaning.specs.Reading.{Holds, sequence, Read, digit, done, readAt}
@@ -11,7 +11,7 @@ use Rattle.reader.specs.declared.Next.the-variants.{Digit, Done}
 use Rattle.reader.specs.declared.Reader.{Reader}
 use Rattle.reader.specs.declared.Reading.{Reading}
 use Rattle.reader.specs.declared.State.{State}
-use Rattle.reader.specs.States.{call, moved, After}
+use Rattle.reader.specs.States.{digitAt, opened, call, moved, After}
 
 -- what a call gives, as document 01's
 abbrev pub readOf : Next → Read
@@ -37,6 +37,10 @@ pub record Called (before after : Reader) (r : Next) : Type 0 where
   pub after-is : after ≡ readerOf (before .scalar) (moved (stateOf before) (call (now (before .scalar)) (stateOf before)))
   pub reads : (w : ℕ) (o : Order) (k : ℕ) → After w o (now (before .scalar)) k (stateOf before) → readOf r ≡ readAt (sequence (before .refusal) w o (now (before .scalar))) k
   pub counts : (w : ℕ) (o : Order) (k : ℕ) → After w o (now (before .scalar)) k (stateOf before) → After w o (now (before .scalar)) (suc k) (stateOf after)
+
+-- the digit so many places under the m to come, in the window that opens there
+abbrev pub Inside : (w N m under : ℕ) → Next → Type 0
+Inside w N m under r = let t = opened w N (m - 1) in r ≡ Digit (digitAt (m - 1 - under) (t .pending) (t .spot))
 
 -- `read_at`: the number that a reader of w and s, in an order, holds, and what its call after k others gives
 pub record Answered (w : ℕ) (o : Order) (s : List ℕ) (k : ℕ) (r : Reading) : Type 0 where

@@ -2,13 +2,13 @@
 // numbers, and a reader's own functions only take it apart. A caller of `read_at`, of `start`, `call` and `moved`, or of `new_state` and `next_of`, which go
 // through a reader, needs no walk by hand.
 ghost use mathlib.Core.Path.{_≡_};
-ghost use Prim.Native.Nat.{_-_, _≤_, _<_, min};
+ghost use Prim.Native.Nat.{_-_, _≤_, _<_};
 ghost use Rattle.meaning.specs.Scalars.{number, orderOf};
 ghost use Rattle.meaning.specs.Digits.{mostPlaces};
 ghost use Rattle.width.specs.Widths.{Wide};
 ghost use Rattle.scalar.specs.Orders.{ordered};
 ghost use Rattle.reader.specs.States.{digitAt, ready, passed, opened, fresh, taken, call, moved, After};
-ghost use Rattle.reader.specs.Calls.{Made, Called, Answered};
+ghost use Rattle.reader.specs.Calls.{Made, Called, Inside, Answered};
 use scalar::Order;
 use width::Known;
 use width::Width;
@@ -169,7 +169,7 @@ pub fn step(
     fresh(scalar, place, width, pending, spot, floor, order)
 }
 
-// One call on a state. It is not made through `step`: with two callers `fresh` is compiled apart, and a call inside a window stays short.
+// One call on a state.
 pub fn call(scalar: &[u8], state: State) -> Taken
     ensures { λ r. ⌜ r ≡ call (now (scalar .entry)) state ⌝ }
 {
@@ -202,42 +202,61 @@ pub fn moved(state: State, taken: Taken) -> State
     }
 }
 
-// How many places of a window are left to pass, at most so many.
-fn held(place: usize, floor: usize, most: u16) -> u16
-    ensures { λ r. ⌜ r ≡ min most (place - floor) ⌝ }
+// Where the window ends that opens over the places to come; where none opens, the highest place alone is passed.
+fn end_of(w: Width, order: u8, scalar: &[u8], place: usize) -> usize
+    requires { ⌜ Wide (w .bits) ⌝ }
+    requires { ⌜ (0 < place) × (place ≤ mostPlaces) ⌝ }
+    ensures { λ r. ⌜ r ≡ opened (w .bits) (number (orderOf order) (now (scalar .entry))) (place - 1) .floor ⌝ }
 {
-    if place <= floor {
-        return 0;
+    let width = w.bits();
+    let bits = scalar::window(order, scalar, place - 1, width);
+    if windows::opening::opens(width, bits) {
+        return windows::opening::under(place, width as usize);
     }
-    let left = place - floor;
-    if left < (most as usize) {
-        left as u16
-    } else {
-        most
-    }
+    place - 1
 }
 
-// What `Reader::new` and the call of `Reader::next` after `calls` others give, for a caller that holds no reader. The places that a window still holds
-// are passed at once.
+// The digit so many places under the highest to come, in the window that opens there.
+fn inside(w: Width, order: u8, scalar: &[u8], place: usize, under: usize) -> Next
+    requires { ⌜ Wide (w .bits) ⌝ }
+    requires { ⌜ (under < place) × (place ≤ mostPlaces) ⌝ }
+    ensures { λ r. ⌜ Inside (w .bits) (number (orderOf order) (now (scalar .entry))) place under r ⌝ }
+{
+    let taken = opening(w, order, scalar, place);
+    Next::Digit(digit_at(place - 1 - under, taken.pending, taken.spot))
+}
+
+// What `Reader::new` and the call of `Reader::next` after `calls` others give, for a caller that holds no reader. A window that ends above the place asked for is
+// passed at once, and not looked up.
 pub fn read_at(width: u8, order: Order, scalar: &[u8], calls: u16) -> Reading
     ensures { λ r. ⌜ Answered width (ordered order) (now (scalar .entry)) calls r ⌝ }
 {
-    let mut state = start(width, order, scalar);
-    let mut k: u16 = 0;
-    loop {
-        let taken = call(scalar, state);
-        if calls <= k {
-            let next = taken.next;
+    let state = start(width, order, scalar);
+    let refusal = state.refusal;
+    let Known::As(w) = Width::known(width) else {
+        return Reading {
+            refusal,
+            next: Next::Done,
+        };
+    };
+    let code = state.order;
+    let mut place = state.place;
+    let mut left = calls;
+    while 0 < place {
+        let end = end_of(w, code, scalar, place);
+        let count = place - end;
+        if (left as usize) < count {
             return Reading {
-                refusal: state.refusal,
-                next,
+                refusal,
+                next: inside(w, code, scalar, place, left as usize),
             };
         }
-        state = moved(state, taken);
-        k += 1;
-        let count = held(state.place, state.floor, calls - k);
-        state.place -= count as usize;
-        k += count;
+        place = end;
+        left -= count as u16;
+    }
+    Reading {
+        refusal,
+        next: Next::Done,
     }
 }
 
