@@ -487,6 +487,65 @@ sarvundole_ran baseline_run_powers(sarvundole_set set, const uint16_t *tape, siz
     return r;
 }
 
+/* ---- the chip without subtraction */
+sarvundole_translated baseline_translate(sarvundole_set set, const uint16_t *tape, size_t count, uint16_t *words, size_t room) {
+    sarvundole_translated t = {bad_set(set), 0, 0};
+    const unsigned entries = (set.largest + 1u) / 2;
+    if (!t.refusal && count > SARVUNDOLE_MOST_WORDS) t.refusal = 13;
+    if (t.refusal) return t;
+    size_t bad = first_bad(tape, count, entries);
+    if (bad < count) {
+        t.refusal = 15;
+        t.place = (uint16_t)bad;
+        return t;
+    }
+    if (room < count) {
+        t.refusal = 11;
+        return t;
+    }
+    for (size_t i = 0; i < count; i++) {
+        unsigned code = tape[i] >> 12;
+        words[i] = (uint16_t)(code == 2 || code == 4 ? tape[i] - 0x1000u + entries : tape[i]);
+    }
+    t.words = (uint16_t)count;
+    return t;
+}
+
+static size_t first_bad_second(const uint16_t *tape, size_t words, size_t entries) {
+    for (size_t i = 0; i < words; i++) {
+        unsigned code = tape[i] >> 12, entry = tape[i] & 0xFFF;
+        if ((code != 0 && code != 1 && code != 3) || entry >= entries || (!code && entry) || (code == 1) != (i == 0)) return i;
+    }
+    return words;
+}
+
+sarvundole_ran baseline_run_second(sarvundole_set set, const uint16_t *tape, size_t words, uint32_t modulus, uint32_t base, uint32_t *multiples,
+                                   size_t room) {
+    sarvundole_ran r = {bad_set(set), 0, 0, 0, 0, {0, 0}};
+    const size_t entries = (set.largest + 1u) / 2;
+    if (r.refusal) return r;
+    if (!modulus) r.refusal = 12;
+    else if (words > SARVUNDOLE_MOST_WORDS) r.refusal = 13;
+    else if (room < 2 * entries) r.refusal = 14;
+    if (r.refusal) return r;
+    size_t bad = first_bad_second(tape, words, 2 * entries);
+    if (bad < words) {
+        r.refusal = 15;
+        r.place = (uint16_t)bad;
+        return r;
+    }
+    uint32_t multiple = base % modulus, twice = plus(multiple, multiple, modulus);
+    for (size_t e = 0; e < entries; e++) {
+        multiples[e] = multiple;
+        multiples[entries + e] = plus(0, modulus - multiple, modulus);
+        multiple = plus(multiple, twice, modulus);
+    }
+    r = reach(tape, words, modulus, multiples);
+    r.cost.doublings = entries > 1;
+    r.cost.additions = (uint16_t)(entries - 1);
+    return r;
+}
+
 /* ---- two scalars together */
 /* Solinas's digit of a number that is r modulo 8 beside one that is s: 0 where r is even, else its signed residue modulo 4, turned where r is 3 or 5 and s is 2 modulo 4.
  * Looked up in a constant of two bits an entry, since the residues are as good as random. */

@@ -15,6 +15,9 @@ sarvundole_ran baseline_run(sarvundole_set set, const uint16_t *tape, size_t wor
                             size_t room);
 sarvundole_ran baseline_run_powers(sarvundole_set set, const uint16_t *tape, size_t words, uint32_t modulus, uint32_t base, uint32_t inverse, uint32_t *powers,
                                    size_t room, uint32_t *inverse_powers, size_t inverse_room);
+sarvundole_translated baseline_translate(sarvundole_set set, const uint16_t *tape, size_t count, uint16_t *words, size_t room);
+sarvundole_ran baseline_run_second(sarvundole_set set, const uint16_t *tape, size_t words, uint32_t modulus, uint32_t base, uint32_t *multiples,
+                                   size_t room);
 sarvundole_joined baseline_joint(uint8_t order, const uint8_t *a, size_t a_bytes, const uint8_t *b, size_t b_bytes, int8_t *first, size_t first_places, int8_t *second,
                                  size_t second_places, uint16_t *words, size_t room);
 sarvundole_ran baseline_run_joint(const uint16_t *tape, size_t words, uint32_t modulus, uint32_t first, uint32_t second, uint32_t *entries, size_t room);

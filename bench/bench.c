@@ -12,7 +12,7 @@
 #include <string.h>
 #include <time.h>
 
-enum { INPUTS = 512, COUNTED = 128, TURNS = 101, AGREED = 20000, ROOM_PLACES = 640, ROOM_WORDS = 1100, ROOM_MARKS = 10, ROOM_MULTIPLES = 70, ROOM_LINE = 3300 };
+enum { INPUTS = 512, COUNTED = 128, TURNS = 101, AGREED = 20000, ROOM_PLACES = 640, ROOM_WORDS = 1100, ROOM_MARKS = 10, ROOM_MULTIPLES = 140, ROOM_LINE = 3300 };
 
 /* One call's input and the memory that it is lent. */
 typedef struct {
@@ -24,8 +24,8 @@ typedef struct {
     uint16_t calls;
     sarvundole_reader reader;
     int8_t digits[ROOM_PLACES], rival[ROOM_PLACES];
-    uint16_t tape[ROOM_WORDS], joint[ROOM_WORDS];
-    size_t joint_words;
+    uint16_t tape[ROOM_WORDS], chip[ROOM_WORDS], joint[ROOM_WORDS];
+    size_t chip_words, joint_words;
     uint8_t line[ROOM_LINE];
 } input;
 
@@ -83,6 +83,15 @@ static void run(const input *in, output *out, int library) {
 static void run_powers(const input *in, output *out, int library) {
     ran(out, (library ? sarvundole_run_powers : baseline_run_powers)(in->set, in->tape, in->words, in->modulus, in->unit, in->inverse, out->multiples, in->multiples_room,
                                                                      out->inverses, in->inverses_room));
+}
+
+static void translate(const input *in, output *out, int library) {
+    sarvundole_translated t = (library ? sarvundole_translate : baseline_translate)(in->set, in->tape, in->words, out->words, in->room);
+    out->fields[0] = t.refusal, out->fields[1] = t.place, out->fields[2] = t.words;
+}
+
+static void run_second(const input *in, output *out, int library) {
+    ran(out, (library ? sarvundole_run_second : baseline_run_second)(in->set, in->chip, in->chip_words, in->modulus, in->base, out->multiples, in->multiples_room));
 }
 
 static void joint(const input *in, output *out, int library) {
@@ -186,7 +195,7 @@ static void give_unit(input *in) {
     while (in->inverse = inverse_of(in->unit, in->modulus), (uint64_t)in->unit * in->inverse % in->modulus != 1 % in->modulus) in->unit++;
 }
 
-/* An input that the calls accept: a random scalar below an order of bytes FF, its string in a form, and that string's tape; another scalar, and the tape of both. */
+/* An input that the calls accept: a random scalar below an order of bytes FF, its string in a form, and that string's tape, for the chip without subtraction too; another scalar, and the tape of both. */
 static void accepted(input *in, uint8_t form, sarvundole_set set, uint8_t order, size_t bytes) {
     uint64_t marks[SARVUNDOLE_MARK_WORDS];
     memset(in, 0, sizeof *in);
@@ -200,6 +209,7 @@ static void accepted(input *in, uint8_t form, sarvundole_set set, uint8_t order,
     baseline_recode(SARVUNDOLE_WNAF, sarvundole_whole(2), order, in->scalar, bytes, in->rival, in->places, marks, SARVUNDOLE_MARK_WORDS);
     in->entries = 1u << (set.width - 2);
     in->words = baseline_tape(set, in->digits, in->places, in->tape, ROOM_WORDS).words;
+    in->chip_words = baseline_translate(set, in->tape, in->words, in->chip, ROOM_WORDS).words;
     in->line_room = ROOM_LINE;
     for (size_t i = 0; i < bytes; i++) in->other[i] = (uint8_t)chance(256);
     in->other_bytes = bytes, in->other_places = in->places, in->second = any32();
@@ -247,7 +257,7 @@ static void any(input *in) {
     case 6: in->scalar[chance(66)] ^= (uint8_t)(1 << chance(8)); break;
     case 7: in->room = chance((uint32_t)in->words + 1); break;
     case 8: in->modulus = chance(3); in->unit = chance(4), in->inverse = chance(4); break;
-    case 9: in->words = chance(ROOM_WORDS); break;
+    case 9: in->words = in->chip_words = chance(ROOM_WORDS); break;
     case 10: in->multiples_room = chance(ROOM_MULTIPLES); break;
     case 11: in->tape[chance((uint32_t)in->words + 1)] = (uint16_t)chance(65536); break;
     case 12: in->line_room = chance(ROOM_LINE); break;
@@ -257,6 +267,7 @@ static void any(input *in) {
     case 16: in->set.largest = (uint8_t)chance(256); break;
     case 17: in->inverses_room = chance(ROOM_MULTIPLES); break;
     case 18: in->inverse = any32(); break;
+    case 19: in->chip[chance((uint32_t)in->chip_words + 1)] = (uint16_t)chance(65536); break;
     default: break;
     }
     framed(in, (uint8_t)(1 + chance(2)));
@@ -392,6 +403,8 @@ int main(int words, char **given) {
         {"recode_below MOF", recode_below, 1, 0, {2}},
         {"recode_below wNAF", recode_below, 2, 0, {4, 8}},
         {"recode_below wMOF", recode_below, 3, 0, {4, 8}},
+        {"translate", translate, 2, 0, {4, 8}},
+        {"run_second", run_second, 2, 0, {4, 8}},
         {"joint", joint, 2, 0, {2}},
         {"run_joint", run_joint, 2, 0, {2}},
         {"joint, lowest first", joint, 2, 1, {2}},

@@ -1,5 +1,5 @@
 /* Sarvundole: recodes a public check number to signed digits, checks digits made elsewhere, makes a step tape of a string and runs
- * a tape over residues or over powers; recodes and runs for two scalars together; writes a string as a line of hexadecimal and reads such a line. C99 and C++.
+ * a tape over residues or over powers; recodes and runs for two scalars together; translates a tape to the chip without subtraction and runs its words; writes a string as a line of hexadecimal and reads such a line. C99 and C++.
  *
  * Scalars come as bytes, 0 to 66 of them, in either order: each call on a scalar is told which byte comes first, 0 for the highest, anything
  * else for the lowest. L bytes have n = 8L bits. A width w is 2 to 8. The digits of width w are 0 and
@@ -29,7 +29,7 @@
 #include <stdint.h>
 
 /* This header's version. */
-#define SARVUNDOLE_VERSION "3.1.0"
+#define SARVUNDOLE_VERSION "3.2.0"
 
 #ifdef __cplusplus
 extern "C" {
@@ -62,11 +62,11 @@ enum sarvundole_refusal {
     SARVUNDOLE_BAD_DIGIT = 8,        /* a digit not of the set; place is the lowest such */
     SARVUNDOLE_OTHER_WORTH = 9,      /* string not worth the scalar */
     SARVUNDOLE_NEAR_DIGITS = 10,     /* two nonzero digits fewer than w places apart; place is the lower of the lowest such pair */
-    SARVUNDOLE_SHORT_TAPE = 11,      /* tape buffer too short for all its words */
+    SARVUNDOLE_SHORT_TAPE = 11,      /* tape buffer too short for all its words; in translate, under the words of its source */
     SARVUNDOLE_ZERO_MODULUS = 12,    /* modulus 0 */
     SARVUNDOLE_LONG_TAPE = 13,       /* tape over 1,057 words */
-    SARVUNDOLE_FEW_MULTIPLES = 14,   /* multiples buffer under (m + 1) / 2 entries, which are 2^(w-2) at a whole width; in run_joint, under 4; in run_powers, either buffer */
-    SARVUNDOLE_BAD_WORD = 15,        /* a bad word; place is the first such */
+    SARVUNDOLE_FEW_MULTIPLES = 14,   /* multiples buffer under (m + 1) / 2 entries, which are 2^(w-2) at a whole width; in run_powers, either buffer; in run_second, under twice as many; in run_joint, under 4 */
+    SARVUNDOLE_BAD_WORD = 15,        /* a bad word; place is the first such; in run_second, by the other chip's codes */
     SARVUNDOLE_MALFORMED = 16,       /* line not all hexadecimal, not opening with 00 or A2, or lacking a field or part of one */
     SARVUNDOLE_NO_INVERSE = 17,      /* product of base and inverse not 1 modulo m */
     SARVUNDOLE_UNEQUAL_SCALARS = 18, /* scalars of unequal lengths */
@@ -118,6 +118,7 @@ static inline const char *sarvundole_refusal_words(unsigned refusal) {
 #define SARVUNDOLE_MARK_WORDS 9
 #define SARVUNDOLE_MOST_WORDS 1057
 #define SARVUNDOLE_MOST_MULTIPLES 64
+#define SARVUNDOLE_MOST_SECOND_MULTIPLES 128  /* with the negatives, for run_second */
 #define SARVUNDOLE_JOINT_ENTRIES 4
 #define SARVUNDOLE_MOST_PLAIN_LINE 1068  /* characters of version 1 */
 #define SARVUNDOLE_MOST_LINE 3188        /* characters of either version */
@@ -160,7 +161,14 @@ typedef struct sarvundole_cost {
     uint16_t additions;
 } sarvundole_cost;
 
-/* What run, run_powers and run_joint answer: the residue reached, the doublings and additions done, and the cost of the multiples, which those two leave out. */
+/* What translate answers: the words written, as many as the tape has. */
+typedef struct sarvundole_translated {
+    uint8_t refusal;
+    uint16_t place;
+    uint16_t words;
+} sarvundole_translated;
+
+/* What run, run_powers, run_second and run_joint answer: the residue reached, the doublings and additions done, and the cost of the multiples, which those two leave out. */
 typedef struct sarvundole_ran {
     uint8_t refusal;
     uint16_t place;
@@ -277,6 +285,19 @@ sarvundole_taped sarvundole_tape(sarvundole_set set, const int8_t *digits, size_
  * tape gives 0. Lent: the tape; for writing, at least so many multiples. Refusals, tried in this order: 2, 22, 12, 13, 14, 15. */
 sarvundole_ran sarvundole_run(sarvundole_set set, const uint16_t *tape, size_t words, uint32_t modulus, uint32_t base, uint32_t *multiples,
                               size_t room);
+
+/* Translates a tape that sarvundole_run accepts to the words of the chip without subtraction, which loads, adds and doubles alone and holds twice the entries: e stands for
+ * 2e + 1 below (largest + 1) / 2, and from there on for the negative of the entry so much lower. Codes 0, 1 and 3 stay; 2 becomes 1 and 4 becomes 3, with
+ * (largest + 1) / 2 added to the entry. There are as many words as the tape has, and none beyond them is written. All words and the room are judged before one is
+ * written. Lent: the tape; for writing, room for as many words. Refusals, tried in this order: 2, 22, 13, 15, 11. */
+sarvundole_translated sarvundole_translate(sarvundole_set set, const uint16_t *tape, size_t count, uint16_t *words, size_t room);
+
+/* Runs the words of the chip without subtraction over residues. A word is good if its code is 0, 1 or 3, its entry is below largest + 1, a double's entry is 0, and it is a
+ * load exactly when it is the first. All words are judged before a multiple is stored; then the multiples (2e + 1) * base mod modulus are stored, and after them their
+ * negatives mod modulus, largest + 1 entries in all, for an empty tape too. For the translation of a tape it answers what sarvundole_run answers for the tape; the cost leaves
+ * out negating. Lent: the words; for writing, at least largest + 1 entries. Refusals, tried in this order: 2, 22, 12, 13, 14, 15. */
+sarvundole_ran sarvundole_run_second(sarvundole_set set, const uint16_t *tape, size_t words, uint32_t modulus, uint32_t base, uint32_t *multiples,
+                                     size_t room);
 
 /* Writes the joint sparse form of two scalars of equal length, told in one order of bytes: two rows of digits -1, 0, 1, n + 1 places each, the first worth a, the
  * second worth b, with the fewest nonzero columns of all such pairs of rows. Writes its tape too, in the words of sarvundole_tape over the entries 0 to 3, which

@@ -177,13 +177,25 @@ static void put_ran(sarvundole_ran r) {
     put_lent(&multiples, 4);
 }
 
-static void run(int at_end) {
+/* The words are those of the chip without subtraction, or of the other. */
+static void run(int at_end, int without) {
     sarvundole_set set = take_set();
     size_t room = take(2);
     uint32_t modulus = take(4), base = take(4);
     size_t count = left / 2;
     uint32_t *m = lend_to_write(&multiples, room, 4, 0xDEADBEEF, at_end);
-    put_ran(sarvundole_run(set, lend_words(count, at_end), count, modulus, base, m, room));
+    put_ran((without ? sarvundole_run_second : sarvundole_run)(set, lend_words(count, at_end), count, modulus, base, m, room));
+}
+
+static void translate(int at_end) {
+    sarvundole_set set = take_set();
+    size_t room = take(2), count = left / 2;
+    uint16_t *w = lend_to_write(&words, room, 2, 0xEEEE, at_end);
+    sarvundole_translated t = sarvundole_translate(set, lend_words(count, at_end), count, w, room);
+    if (t.refusal == 0 && t.words != count) refuse("a translation has not as many words as its source");
+    put(t.refusal, 1), put(t.place, 2), put(t.words, 2);
+    given_back(&tapes);
+    put_lent(&words, 2);
 }
 
 /* The powers stand where a run's multiples do. */
@@ -352,13 +364,15 @@ static void call(const uint8_t *data, size_t bytes, int at_end) {
     case 2: check(at_end, 0); break;
     case 3: check(at_end, 1); break;
     case 4: tape(at_end); break;
-    case 5: run(at_end); break;
+    case 5: run(at_end, 0); break;
     case 6: read_all(at_end); break;
     case 7: search(); break;
     case 8: run_powers(at_end); break;
     case 9: joint(at_end); break;
     case 10: run_joint(at_end); break;
     case 11: recode_below(at_end); break;
+    case 12: translate(at_end); break;
+    case 13: run(at_end, 1); break;
     case 14: write_line(at_end); break;
     case 15: read_line(at_end); break;
     case 16: choose(at_end); break;

@@ -82,6 +82,14 @@ def powers(width, lent, lent_inverse, modulus, base, inverse, words):
     return hexadecimal(bytes([8, width]) + numbers + second.big_endian(words, 2))
 
 
+def translate(width, lent, words):
+    return hexadecimal(bytes([12, width]) + lent.to_bytes(2, "big") + second.big_endian(words, 2))
+
+
+def run_second(width, lent, modulus, base, words):
+    return b"0D" + run(width, lent, modulus, base, words)[2:]
+
+
 def reader(width, calls, scalar):
     return hexadecimal(bytes([6, width]) + calls.to_bytes(2, "big") + scalar)
 
@@ -548,6 +556,22 @@ def powers_faults():
             yield in_set(line, 8 if 22 in faults else 5)
 
 
+def second_faults():
+    """Faults at once in the translation and in the run of the chip without subtraction: every set of them, of those with a long tape the small ones."""
+    for faults in subsets((2, 22, 13, 15, 11)):
+        words = [0x1001, 0x0000, 0x4002, 0x5000 if 15 in faults else 0x3000, 0x0000]
+        if 13 in faults:
+            words += [0x0000] * (MOST_WORDS + 1 - len(words))
+        if 13 not in faults or len(faults) < 4:
+            yield in_set(translate(1 if 2 in faults else 3, min(len(words) - (1 if 11 in faults else 0), 1100), words), 8 if 22 in faults else 5)
+    for faults in subsets((2, 22, 12, 13, 14, 15)):
+        words = [0x1001, 0x0000, 0x3005, 0x4000 if 15 in faults else 0x3000, 0x0000]
+        if 13 in faults:
+            words += [0x0000] * (MOST_WORDS + 1 - len(words))
+        if 13 not in faults or len(faults) < 4:
+            yield in_set(run_second(9 if 2 in faults else 3, 5 if 14 in faults else 6, 0 if 12 in faults else 10, 9, words), 8 if 22 in faults else 5)
+
+
 def frame_faults():
     """Every set of faults of a written string, and of a line that is read."""
     for version, faults in itertools.product((1, 2), subsets([7, 24])):
@@ -828,6 +852,52 @@ def run_joint_edges():
         yield run_joint(lent, 97, 5, 6, [0x1000])
 
 
+def chip_words(width, words, largest=None):
+    """A good tape in the words of the chip without subtraction."""
+    return [second.translated(second.entries(width, largest), x) for x in words]
+
+
+def second_edges():
+    """Known tapes, rooms one too few and more, the largest numbers, the longest tapes, every width about the limits, and in every set a string's tape with its translation and the run of it."""
+    for _, width, text, modulus, base, _, multiples in KNOWN_TAPES:
+        words, count = [int(x, 16) for x in text.split()], len(multiples)
+        for more in (-1, 0, 3):
+            yield translate(width, len(words) + more, words)
+            yield run_second(width, 2 * count + more, modulus, base, chip_words(width, words))
+        yield run_second(width, 2 * count, modulus, base, words)
+    most = 2**32 - 1
+    for modulus, base in itertools.product((0, 1, 2, 10, 2**31, most), (0, 1, 9, 2**31, most)):
+        yield run_second(3, 4, modulus, base, [0x1003, 0, 0x3000, 0x3001, 0x3002])
+    for words in ([], [0x1000], [0x2000]):
+        for lent in (0, 1, 2):
+            yield translate(2, lent, words)
+            yield run_second(2, lent, 7, 3, words)
+    for count in (1057, 1058):
+        words = [0x203F] + [0x303F, 0x0000] * ((count - 1) // 2) + [0x403F] * ((count - 1) % 2)
+        yield translate(8, count, words)
+        yield run_second(8, 128, most, most, chip_words(8, words))
+    for width in (0, 1, *WIDTHS, 9, 255):
+        need = min(2 ** max(width - 1, 0), 130)
+        yield translate(width, 2, [0x2000, 0x4000 + max(need // 2 - 1, 0)])
+        for lent in (need - 1, need):
+            yield run_second(width, lent, 97, 5, [0x1000 + need - 1, 0x3000 + need // 2])
+    for width, largest in second.sets():
+        words = second.tape_of([-d for d in second.form_digits(WNAF, width, b"\xb7\x1d", largest=largest)])
+        count = second.entries(width, largest)
+        yield in_set(translate(width, len(words), words), largest)
+        yield in_set(run_second(width, 2 * count, 1000003, 12345, chip_words(width, words, largest)), largest)
+        yield in_set(run_second(width, 2 * count, 1009, 123, [0x1000 + 2 * count - 1, 0x3000 + 2 * count]), largest)
+
+
+def second_every_word():
+    """Every code, those that there are with the entries about the limits of either chip, first and later."""
+    for code in range(16):
+        for entry in (0, 1, 2, 3, 4, 4095) if code < 5 else (0,):
+            for words in ([code << 12 | entry], [0x1000, code << 12 | entry]):
+                yield translate(3, 2, words)
+                yield run_second(3, 4, 1009, 123, words)
+
+
 def inverse_of(modulus, base):
     """The inverse of a base that has one, else 1."""
     try:
@@ -1017,6 +1087,8 @@ def trial_malformed():
         search(3, 42),
         joint_fitting(b"\x39", b"\x16"),
         run_joint(4, 10, 9, 8, [0x1003, 0, 0x3002]),
+        translate(3, 4, [0x2001, 0, 0x4000]),
+        run_second(3, 4, 10, 9, [0x1003, 0, 0x3002]),
         below_fitting(WNAF, 3, b"\x2b", b"\x2a"),
         write(2, 40, [0, -3, 0, 0, 3]),
         read(6, second.frame_of(2, [0, -3, 0, 0, 3])),
@@ -1047,10 +1119,10 @@ def at_the_limits():
         yield hexadecimal(bytes([3, 2, 5, 0, 0, 0, 1, 0][: 8 - more]))
         yield tape(2, 1100 + more, [1])
         yield tape(2, 5, [1] * (600 + more))
-        yield run(2, 80 + more, 7, 3, [0x1000])
+        yield run(2, 140 + more, 7, 3, [0x1000])
         yield run(2, 1, 7, 3, [0x1000] * (1100 + more))
-        yield powers(2, 80 + more, 1, 7, 3, 5, [0x1000])
-        yield powers(2, 1, 80 + more, 7, 3, 5, [0x1000])
+        yield powers(2, 140 + more, 1, 7, 3, 5, [0x1000])
+        yield powers(2, 1, 140 + more, 7, 3, 5, [0x1000])
         yield powers(2, 1, 1, 7, 3, 5, [0x1000] * (1100 + more))
         yield reader(2, 700 + more, b"\x01")
         yield reader(2, 1, bytes(80 + more))
@@ -1063,8 +1135,11 @@ def at_the_limits():
         yield joint(9, 9, 1100 + more, b"\x39", b"\x16")
         yield joint(9, 9, 20, bytes(80 + more), b"\x16")
         yield joint(9, 9, 20, b"\x39", bytes(80 + more))
-        yield run_joint(80 + more, 7, 3, 2, [0x1000])
+        yield run_joint(140 + more, 7, 3, 2, [0x1000])
         yield run_joint(4, 7, 3, 2, [0x1000] * (1100 + more))
+        yield translate(2, 1100 + more, [0x2000])
+        yield translate(2, 1, [0x2000] * (1100 + more))
+        yield run_second(2, 140 + more, 7, 3, [0x1001])
         yield write(2, 3300 + more, [1])
         yield write(2, 50, [1] * (600 + more))
         yield read(600 + more, b"01")
@@ -1222,6 +1297,23 @@ def any_powers(rng):
     return line if largest == second.whole(width) and rng.randrange(2) else in_set(line, largest)
 
 
+def any_second(rng):
+    """Any tape in any set, translated, or run in the words of the chip without subtraction; now and then with a word that it has not."""
+    width, largest = rng.choice(second.sets())
+    count = second.entries(width, largest)
+    words = some_words(rng, width)
+    if rng.randrange(3) == 0:
+        line = translate(width, max(len(words) + rng.choice([0, 0, 0, 1, 3, -1]), 0), words)
+    else:
+        bits = rng.choice([1, 4, 8, 16, 31, 32])
+        modulus, base = rng.randrange(2**bits), rng.randrange(2 ** rng.choice([bits, 32]))
+        words = words if second.bad_words(count, words) else chip_words(width, words, largest)
+        if rng.random() < 0.15 and words:
+            words[rng.randrange(len(words))] = rng.choice([rng.randrange(65536), 0x2000, 0x4000, 0x0001, 0x1000, 0x3000 + 2 * count, 0x3000 + 2 * count - 1])
+        line = run_second(width, 2 * count + rng.choice([0, 0, 0, 0, 2, -1]), modulus, base, words)
+    return line if largest == second.whole(width) and rng.randrange(2) else in_set(line, largest)
+
+
 def any_reader(rng):
     scalar = scalar_like(rng, min(some_length(rng), 67))
     return reader(rng.choice(WIDTHS), max(8 * len(scalar) + rng.choice([0, 1, 2, 4]), 0), scalar)
@@ -1374,7 +1466,7 @@ def salvage_input():
 
 def some_trial_line(rng):
     """A line for the trial program, mostly good."""
-    line = rng.choice([any_recode, any_below, any_check, any_check, any_tape, any_run, any_joint, any_joint, any_run_joint, any_powers, any_powers, any_reader, any_search, any_write, any_read, any_read, any_in_set, any_in_set, any_choose, any_lighter])(rng)
+    line = rng.choice([any_recode, any_below, any_check, any_check, any_tape, any_run, any_joint, any_joint, any_run_joint, any_powers, any_powers, any_second, any_second, any_reader, any_search, any_write, any_read, any_read, any_in_set, any_in_set, any_choose, any_lighter])(rng)
     if rng.randrange(3) == 0:
         line = any_lowest_first(rng, line)
     kind = rng.randrange(40)
@@ -1407,6 +1499,8 @@ def trial_input():
         *run_joint_edges(),
         *powers_edges(),
         *powers_every_word(),
+        *second_edges(),
+        *second_every_word(),
         *reader_edges(),
         *cross_check(),
         *write_edges(),
@@ -1423,6 +1517,7 @@ def trial_input():
         *joint_faults(),
         *run_joint_faults(),
         *powers_faults(),
+        *second_faults(),
         *frame_faults(),
         *lighter_faults(),
         *small_faults(),

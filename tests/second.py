@@ -38,6 +38,8 @@ capitals: every field, then every lent buffer whole. Numbers of more than one by
     0A joint run      multiples lent 2, modulus 4, g 4, h 4, tape           as 05
     0B recode below   form 1, width 1, places lent 2, mark words lent 1,    as 01
                       group order's length 1, group order, scalar
+    0C translate      width 1, words lent 2, tape                           refusal 1, place 2, words 2, the words lent
+    0D second run     as 05                                                 as 05
     0E write          version 1, characters lent 2, digits                  refusal 1, length 2, the line's buffer
     0F read           places lent 2, the line's characters                  refusal 1, stated number 1, weight 2, top 2,
                                                                             places 2, digits
@@ -53,14 +55,14 @@ feed; a last line without one counts if not empty.
 With 80 added to the call, 81, 82, 83, 86, 89, 8B, 90 and 91, a scalar's bytes come lowest first; else they come highest first.
 The group order's come highest first in either.
 
-With 40 added to the call, 41 to 45, 48, 4B, C1, C2, C3 and CB, the largest digit (1) of a digit set follows the width;
-else the set is the whole width's.
+With 40 added to the call, 41 to 45, 48, 4B, 4C, 4D, C1, C2, C3 and CB, the largest digit (1) of a digit set follows the
+width; else the set is the whole width's.
 
 FF answers a line that is no such frame: empty, of odd length, with another character, of another call, without a
 part of a fixed field, of the stated scalar or of the stated first string, with half a tape word at its end, with anything after a search, or with
 a version that is not 1 or 2. FF
 also answers a line that asks for more than the program has: over 600 digits or places, 12 mark words, 1,100 tape
-words (given or lent), 80 multiples or powers of either, 80 bytes of a scalar or of a group order, 700 reader calls, 3,300 characters of a line (given or lent). So
+words (given or lent), 140 multiples or powers of either, 80 bytes of a scalar or of a group order, 700 reader calls, 3,300 characters of a line (given or lent). So
 the longest frame is that of a line to read: 3,303 bytes, 6,606 characters, and FF answers every longer line.
 """
 
@@ -418,6 +420,80 @@ def run(width, words, modulus, base, multiples, largest=None):
         stored = [(2 * e + 1) * base % modulus for e in range(entries(width, largest))]
         residue = tape_value(words) * base % modulus
         return (0, 0, residue, doublings, additions, *cost(entries(width, largest))), stored + multiples[len(stored) :]
+    return (refusal, place, 0, 0, 0, 0, 0), multiples
+
+
+# ---- the chip without subtraction
+def chip_entries(count):
+    """What its entries stand for: the odd multiples, and then their negatives."""
+    odd = [2 * e + 1 for e in range(count)]
+    return odd + [-multiple for multiple in odd]
+
+
+def translated(count, x):
+    """The same step in its words: the entry of what is loaded or added, whichever its sign is."""
+    if code_of(x) == DOUBLE:
+        return x
+    amount = 2 * entry_of(x) + 1
+    if code_of(x) in (LOAD_NEGATED, SUBTRACT):
+        amount = -amount
+    return (LOAD if code_of(x) in (LOAD, LOAD_NEGATED) else ADD) << 12 | chip_entries(count).index(amount)
+
+
+def translate(width, given, words, largest=None):
+    """refusal, place, word count; words"""
+    place = 0
+    if bad_width(width):
+        refusal = 2
+    elif largest is not None and bad_set(width, largest):
+        refusal = 22
+    elif len(given) > MOST_WORDS:
+        refusal = 13
+    elif bad_words(entries(width, largest), given):
+        refusal, place = 15, min(bad_words(entries(width, largest), given))
+    elif len(words) < len(given):
+        refusal = 11
+    else:
+        made = [translated(entries(width, largest), x) for x in given]
+        return (0, 0, len(made)), made + words[len(made) :]
+    return (refusal, place, 0), words
+
+
+def chip_good(count, index, x):
+    """A load of an entry that there is, first; after it doubles without an entry and additions of one that there is."""
+    code, there = code_of(x), entry_of(x) < 2 * count
+    return code == LOAD and there if index == 0 else x == 0 or code == ADD and there
+
+
+def run_second(width, words, modulus, base, multiples, largest=None):
+    """As run: its entries have signs, its words have none."""
+    place = 0
+    if bad_width(width):
+        refusal = 2
+    elif largest is not None and bad_set(width, largest):
+        refusal = 22
+    else:
+        count = entries(width, largest)
+        bad = [i for i, x in enumerate(words) if not chip_good(count, i, x)]
+        if modulus == 0:
+            refusal = 12
+        elif len(words) > MOST_WORDS:
+            refusal = 13
+        elif len(multiples) < 2 * count:
+            refusal = 14
+        elif bad:
+            refusal, place = 15, bad[0]
+        else:
+            value, doublings, additions = 0, 0, 0
+            for index, x in enumerate(words):
+                if index == 0:
+                    value = chip_entries(count)[entry_of(x)]
+                elif code_of(x) == DOUBLE:
+                    value, doublings = value + value, doublings + 1
+                else:
+                    value, additions = value + chip_entries(count)[entry_of(x)], additions + 1
+            stored = [multiple * base % modulus for multiple in chip_entries(count)]
+            return (0, 0, value * base % modulus, doublings, additions, *cost(count)), stored + multiples[len(stored) :]
     return (refusal, place, 0, 0, 0, 0, 0), multiples
 
 
@@ -783,7 +859,7 @@ def salvage(data):
 LENT_DIGIT, LENT_MARK, LENT_WORD, LENT_MULTIPLE, LENT_CHARACTER = 0x5A, 0xA5A5A5A5A5A5A5A5, 0xEEEE, 0xDEADBEEF, 0x2E
 LENT_POWER, LENT_INVERSE = 0xDEADBEEF, 0xC0DEC0DE
 TRIAL_PLACES, TRIAL_MARKS, TRIAL_WORDS = 600, 12, 1100
-TRIAL_MULTIPLES, TRIAL_BYTES, TRIAL_CALLS = 80, 80, 700
+TRIAL_MULTIPLES, TRIAL_BYTES, TRIAL_CALLS = 140, 80, 700
 TRIAL_LINE = 3300
 
 
@@ -868,6 +944,20 @@ def trial_run(frame):
     return ran(*run(width, given_words(frame), modulus, base, multiples, largest))
 
 
+def trial_translate(frame):
+    width, largest = frame.set()
+    words = [LENT_WORD] * frame.number(2, TRIAL_WORDS)
+    (refusal, *fields), words = translate(width, given_words(frame), words, largest)
+    return bytes([refusal]) + big_endian(fields + words, 2)
+
+
+def trial_run_second(frame):
+    width, largest = frame.set()
+    multiples = [LENT_MULTIPLE] * frame.number(2, TRIAL_MULTIPLES)
+    modulus, base = frame.number(4), frame.number(4)
+    return ran(*run_second(width, given_words(frame), modulus, base, multiples, largest))
+
+
 def trial_joint(frame):
     first, second = ([LENT_DIGIT] * frame.number(2, TRIAL_PLACES) for _ in range(2))
     words = [LENT_WORD] * frame.number(2, TRIAL_WORDS)
@@ -937,9 +1027,9 @@ def trial_lighter(frame):
 
 
 TRIALS = dict(enumerate([trial_recode, trial_check, trial_nonadjacent, trial_tape, trial_run, trial_reader, trial_search], 1))
-TRIALS |= {0x08: trial_powers, 0x09: trial_joint, 0x0A: trial_run_joint, 0x0B: trial_below, 0x0E: trial_write, 0x0F: trial_read, 0x10: trial_choose, 0x11: trial_lighter}
+TRIALS |= {0x08: trial_powers, 0x09: trial_joint, 0x0A: trial_run_joint, 0x0B: trial_below, 0x0C: trial_translate, 0x0D: trial_run_second, 0x0E: trial_write, 0x0F: trial_read, 0x10: trial_choose, 0x11: trial_lighter}
 ON_A_SCALAR = [trial_recode, trial_check, trial_nonadjacent, trial_reader, trial_joint, trial_below, trial_choose, trial_lighter]
-IN_A_SET = [trial_recode, trial_check, trial_nonadjacent, trial_tape, trial_run, trial_powers, trial_below]
+IN_A_SET = [trial_recode, trial_check, trial_nonadjacent, trial_tape, trial_run, trial_powers, trial_below, trial_translate, trial_run_second]
 LOWEST = 0x80  # added to the call: a scalar's bytes come lowest first
 BETWEEN = 0x40  # added to the call: the largest digit of a set follows the width
 
@@ -1010,6 +1100,21 @@ def check_tapes():
                 assert check(width, scalar, digits) == (0, 0, weight(digits), top(digits))
             assert check(width, scalar, form_digits(WNAF, width, scalar), nonadjacent=True)[0] == 0
             assert reader(width, scalar, 17)[1] == form_digits(WMOF, width, scalar)[::-1]
+
+
+def check_second():
+    """In every set a tape and its negative, translated, run on the chip without subtraction as they run on the other, with as many words and codes 0, 1 and 3 alone."""
+    for width, largest in sets():
+        count = entries(width, largest)
+        assert [e for e in chip_entries(count) if e > 0] == [-e for e in chip_entries(count) if e < 0] and len(chip_entries(count)) == 2 * count
+        for n in (0, 1, 13, 42, 349, 46877, 65535):
+            for sign in (1, -1):
+                words = tape_of([sign * d for d in fractional(n, 16, width, largest)])
+                (refusal, place, made), chip = translate(width, words, [0] * len(words), largest)
+                assert (refusal, place, made) == (0, 0, len(words)) and {code_of(x) for x in chip} <= {DOUBLE, LOAD, ADD}
+                ran, stored = run(width, words, 1009, 123, [0] * count, largest)
+                turned, doubled = run_second(width, chip, 1009, 123, [0] * 2 * count, largest)
+                assert turned == ran and ran[2] == sign * n * 123 % 1009 and doubled == stored + [-x % 1009 for x in stored]
 
 
 def check_powers():
@@ -1154,6 +1259,7 @@ def own_checks():
     check_nearest()
     check_tapes()
     check_powers()
+    check_second()
     check_orders()
     check_frames()
     check_salvage()

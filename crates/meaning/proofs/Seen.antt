@@ -20,6 +20,7 @@ use Rattle.meaning.specs.Walks.{taken, walked, wholes, tapeValue, doubli
 use Rattle.meaning.specs.Multiples.{makingOf, made, madeFrom, costDoublings, costAdditions, costOf}
 use Rattle.meaning.specs.Taping.{moves, down, tapeOf}
 use Rattle.meaning.specs.Powering.{power, powersOf}
+use Rattle.meaning.specs.SecondChip.{secondValue, translation, secondMultiplesOf}
 use Rattle.meaning.specs.Joint.{column, columnsOf}
 use Rattle.meaning.specs.JointRunning.{pairAt, pairValue, jointEntry, jointEntriesOf}
 use Rattle.meaning.specs.Choosing.{Allowed, totalOf}
@@ -158,6 +159,19 @@ none-up = refl
 three-powers : powersOf 3 7 3 ≡ 3 ∷ 6 ∷ 5 ∷ []
 unfolding powersOf listed
 three-powers = refl
+
+-- on the chip without subtraction and two entries, -1 is loaded by entry 2, and 3 is taken away by entry 3; modulo 10 the entries of the base 9 are 9, 7, 1, 3
+turned-words : translation 2 (0x2000 ∷ 0 ∷ 0x4001 ∷ 0x3001 ∷ []) ≡ 0x1002 ∷ 0 ∷ 0x3003 ∷ 0x3001 ∷ []
+unfolding stepOf
+turned-words = refl
+
+turned-value : secondValue 2 (0x1002 ∷ 0 ∷ 0x3003 ∷ []) ≡ negsuc 4
+unfolding walked taken stepOf
+turned-value = refl
+
+both-signs : secondMultiplesOf 2 10 9 ≡ 9 ∷ 7 ∷ 1 ∷ 3 ∷ []
+unfolding secondMultiplesOf listed
+both-signs = refl
 
 one-cost : costOf 1 ≡ record { doublings = 0; additions = 0 }
 unfolding makingOf costDoublings costAdditions

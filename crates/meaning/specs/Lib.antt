@@ -21,6 +21,7 @@ pub mod Powering
 pub mod Joint
 pub mod Joining
 pub mod JointRunning
+pub mod SecondChip
 pub mod Whole
 pub mod Choosing
 pub mod Lighter

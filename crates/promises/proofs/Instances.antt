@@ -38,7 +38,7 @@ use Rattle.promises.proofs.Run.{by-kept}
 
 -- ---- rules that can be decided
 -- the rule applies at some place, or fails
-abbrev Decided : Rule → Type 0
+abbrev pub Decided : Rule → Type 0
 Decided x = ((p : ℕ) × Applies x p) ⊎ Fails x
 
 -- each rule, where those before it fail
@@ -87,7 +87,7 @@ search-under C dec (suc n) = go (search-under C dec n) (dec n)
         at p (yes h) l c = f p h c
         at p (no h) l c = let e : p ≡ n = omega arith in g (rw e at c)
 
-among : (C : ℕ → Type 0) → ((p : ℕ) → Dec (C p)) → (n : ℕ) → ((p : ℕ) → C p → p < n) → Decided (lowest 0 C)
+pub among : (C : ℕ → Type 0) → ((p : ℕ) → Dec (C p)) → (n : ℕ) → ((p : ℕ) → C p → p < n) → Decided (lowest 0 C)
 among C dec n within = go (search-under C dec n)
   where
     go : ((p : ℕ) × (p < n) × Lowest C p) ⊎ ((p : ℕ) → p < n → C p → ⊥) → Decided (lowest 0 C)
@@ -100,7 +100,7 @@ or? (yes a) b = yes (inl a)
 or? (no n) (yes b) = yes (inr b)
 or? (no n) (no m) = no (⊎-elim n m)
 
-and? : {A B : Type 0} → Dec A → Dec B → Dec (A × B)
+pub and? : {A B : Type 0} → Dec A → Dec B → Dec (A × B)
 and? (no n) b = no (λ h. n (h .0))
 and? (yes a) (no n) = no (λ h. n (h .1))
 and? (yes a) (yes b) = yes (a, b)
@@ -257,7 +257,7 @@ tape-kept-by w l ds words₀ =
     )
 
 -- ---- run
-good? : (count i x : ℕ) → Dec (Good count i x)
+pub good? : (count i x : ℕ) → Dec (Good count i x)
 good? count i x =
     let load = and? (decLe 1 (codeOf x)) (decLe (codeOf x) 2) in
     let first = ℕ-discrete i 0 in

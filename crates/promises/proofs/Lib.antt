@@ -34,3 +34,4 @@ pub mod JointKnown
 pub mod Shorter
 pub mod Choice
 pub mod Lighter
+pub mod SecondChip

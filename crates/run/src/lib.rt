@@ -29,7 +29,7 @@ fn held(count: usize, step: Move) -> bool
 }
 
 // Whether a word is good at its index: the first is a load, and no other is.
-fn good(count: usize, index: usize, word: u16) -> bool
+pub fn good(count: usize, index: usize, word: u16) -> bool
     requires { ⌜ 0 < count ⌝ }
     ensures { λ r. ⌜ Judged count index word r ⌝ }
 {
@@ -67,7 +67,7 @@ pub fn plus(x: u32, y: u32, modulus: u32) -> u32
 }
 
 // Stores so many odd multiples of the base.
-fn store(count: usize, modulus: u32, base: u32, multiples: &mut [u32])
+pub fn store(count: usize, modulus: u32, base: u32, multiples: &mut [u32])
     requires { ⌜ 0 < modulus ⌝ }
     requires { ⌜ count ≤ length (now multiples) ⌝ }
     ensures { λ _. ⌜ now (multiples .exit) ≡ multiplesOf count modulus base ++ drop count (now (multiples .entry)) ⌝ }

@@ -1,4 +1,5 @@
-// The library that a user names: every call and every type of this house under one name, and the calls for C in `exported` and `together`.
+// The library that a user names: every call and every type of this house under one name, and the calls for C in `exported`, `together` and `chips`.
+pub mod chips;
 pub mod exported;
 pub mod together;
 
@@ -45,6 +46,9 @@ pub use scalar::MOST_BYTES;
 pub use scalar::Order;
 pub use search::Searched;
 pub use search::search;
+pub use second::Translated;
+pub use second::run_second;
+pub use second::translate;
 pub use tape::Move;
 pub use tape::Sign;
 pub use tape::Step;

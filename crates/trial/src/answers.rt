@@ -13,6 +13,7 @@ use crate::recoding;
 use crate::running;
 use crate::searching;
 use crate::taping;
+use crate::translating;
 use crate::weighing;
 use scalar::Order;
 ghost use Prim.Native.Nat.{_≤_};
@@ -36,13 +37,15 @@ fn call(frame: &[u8], out: &mut [u8]) -> usize
         0x02 => checking::answer(false, false, Order::HighestFirst, frame, out),
         0x03 => checking::answer(true, false, Order::HighestFirst, frame, out),
         0x04 => taping::answer(false, frame, out),
-        0x05 => running::answer(false, frame, out),
+        0x05 => running::answer(false, false, frame, out),
         0x06 => reading::answer(Order::HighestFirst, frame, out),
         0x07 => searching::answer(frame, out),
         0x08 => powering::answer(false, frame, out),
         0x09 => joining::answer(Order::HighestFirst, frame, out),
         0x0A => jointly::answer(frame, out),
         0x0B => bounding::answer(false, Order::HighestFirst, frame, out),
+        0x0C => translating::answer(false, frame, out),
+        0x0D => running::answer(true, false, frame, out),
         0x0E => framing::answer(frame, out),
         0x0F => parsing::answer(frame, out),
         0x10 => choosing::answer(Order::HighestFirst, frame, out),
@@ -51,9 +54,11 @@ fn call(frame: &[u8], out: &mut [u8]) -> usize
         0x42 => checking::answer(false, true, Order::HighestFirst, frame, out),
         0x43 => checking::answer(true, true, Order::HighestFirst, frame, out),
         0x44 => taping::answer(true, frame, out),
-        0x45 => running::answer(true, frame, out),
+        0x45 => running::answer(false, true, frame, out),
         0x48 => powering::answer(true, frame, out),
         0x4B => bounding::answer(true, Order::HighestFirst, frame, out),
+        0x4C => translating::answer(true, frame, out),
+        0x4D => running::answer(true, true, frame, out),
         0x81 => recoding::answer(false, Order::LowestFirst, frame, out),
         0x82 => checking::answer(false, false, Order::LowestFirst, frame, out),
         0x83 => checking::answer(true, false, Order::LowestFirst, frame, out),

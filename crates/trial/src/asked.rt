@@ -12,7 +12,7 @@ pub const MARK_WORDS: usize = 12;
 
 pub const WORDS: usize = 1100;
 
-pub const MULTIPLES: usize = 80;
+pub const MULTIPLES: usize = 140;
 
 pub const BYTES: usize = 80;
 

@@ -28,14 +28,14 @@ pub fn line() -> [u8; asked::CHARACTERS]
 }
 
 pub fn multiples() -> [u32; asked::MULTIPLES]
-    ensures { λ r. ⌜ 80 ≡ length r ⌝ }
+    ensures { λ r. ⌜ 140 ≡ length r ⌝ }
 {
     [0xDEAD_BEEF; asked::MULTIPLES]
 }
 
 // The powers of an inverse; those of a base are lent as multiples are.
 pub fn inverses() -> [u32; asked::MULTIPLES]
-    ensures { λ r. ⌜ 80 ≡ length r ⌝ }
+    ensures { λ r. ⌜ 140 ≡ length r ⌝ }
 {
     [0xC0DE_C0DE; asked::MULTIPLES]
 }

@@ -18,6 +18,7 @@ mod recoding;
 mod running;
 mod searching;
 mod taping;
+mod translating;
 mod weighing;
 
 // Of a line one character more is kept than the longest frame has: a longer line is no frame as well.

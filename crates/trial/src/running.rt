@@ -1,4 +1,4 @@
-// Call 05: a set, multiples lent 2, modulus 4, base 4, tape words. It answers refusal 1, place 2, residue 4, doublings 2, additions 2, cost additions 2, cost
+// Calls 05 and 0D: a set, multiples lent 2, modulus 4, base 4, tape words. They answer refusal 1, place 2, residue 4, doublings 2, additions 2, cost additions 2, cost
 // doublings 2, the multiples lent.
 use crate::asked;
 use crate::lent;
@@ -62,8 +62,24 @@ pub fn put_multiples(multiples: &[u32], at: usize, out: &mut [u8]) -> usize
     next
 }
 
+// The call: the words are those of the chip without subtraction, or of the other.
+fn reported(
+    without: bool,
+    set: DigitSet,
+    tape: &[u16],
+    modulus: u32,
+    base: u32,
+    multiples: &mut [u32],
+) -> Ran {
+    if without {
+        return second::run_second(set, tape, modulus, base, multiples);
+    }
+    run::run(set, tape, modulus, base, multiples)
+}
+
 // The call, and its answer. The words that are given are put into memory first.
 fn made(
+    without: bool,
     set: DigitSet,
     given: &[u8],
     tape: &mut [u16],
@@ -77,13 +93,13 @@ fn made(
     ensures { λ r. ⌜ r ≡ 30 + 8 * length (now (multiples .entry)) ⌝ }
 {
     asked::words(given, tape);
-    let ran = run::run(set, tape, modulus, base, multiples);
+    let ran = reported(without, set, tape, modulus, base, multiples);
     let at = put_ran(ran, out);
     put_multiples(multiples, at, out)
 }
 
 // The answer to what follows the set, and where it ends: nothing where the bytes are no such frame.
-fn asked_for(set: DigitSet, rest: &[u8], out: &mut [u8]) -> usize
+fn asked_for(without: bool, set: DigitSet, rest: &[u8], out: &mut [u8]) -> usize
     requires { ⌜ mostAnswer ≤ length (now out) ⌝ }
     ensures { λ r. ⌜ Answered r ⌝ }
 {
@@ -105,6 +121,7 @@ fn asked_for(set: DigitSet, rest: &[u8], out: &mut [u8]) -> usize
     let mut words = lent::words();
     let mut multiples = lent::multiples();
     made(
+        without,
         set,
         &rest[HEAD..],
         &mut words[..given],
@@ -116,7 +133,7 @@ fn asked_for(set: DigitSet, rest: &[u8], out: &mut [u8]) -> usize
 }
 
 // The answer to a frame: its set has a largest digit of its own or not.
-pub fn answer(between: bool, frame: &[u8], out: &mut [u8]) -> usize
+pub fn answer(without: bool, between: bool, frame: &[u8], out: &mut [u8]) -> usize
     requires { ⌜ mostAnswer ≤ length (now out) ⌝ }
     ensures { λ r. ⌜ Answered r ⌝ }
 {
@@ -124,5 +141,5 @@ pub fn answer(between: bool, frame: &[u8], out: &mut [u8]) -> usize
     if frame.len() < end {
         return 0;
     }
-    asked_for(asked::set(between, frame, 1), &frame[end..], out)
+    asked_for(without, asked::set(between, frame, 1), &frame[end..], out)
 }

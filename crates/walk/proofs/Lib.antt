@@ -8,3 +8,4 @@ pub mod Powers
 pub mod Pairs
 pub mod Multiples
 pub mod Storing
+pub mod Translation

@@ -1,0 +1,3 @@
+-- What the contracts of this crate cite beside `meaning`.
+pub mod Words
+pub mod Promises
