@@ -12,6 +12,7 @@ use lib.Count.{trailingZeros}
 use lib.IntN.{ℤ, pos, _-ℤ_}
 use lib.ListN.{length, getD, set, replicate, length-set, length-replicate}
 use lib.Pow.{pow-mono}
+use Rattle.laws.specs.Deciding.{Decides}
 use Rattle.meaning.specs.Scalars.{bit, below}
 use Rattle.meaning.specs.Windows.{windowBits, oddPart}
 use Rattle.meaning.specs.Wmof.{windowAt, spot}
@@ -57,7 +58,7 @@ module _ (w N t i : ℕ) (two : 2 ≤ w) (low : 0 < N → Lowest N t) (tie : i �
   turn-odd = ap (λ x. windowBits w N x % 2) tie ∙ opened-last w N t ∙ lowest-bit N t (low (opens-some N i differs))
 
 -- where it does not, none does, and a sweep halts at the end; where it does, it opens, bit b leads, and the sweep halts over it
-module _ (w N t : ℕ) {b s : ℕ} {r : Bool} (two : 2 ≤ w) (seen : s ≡ windowBits w N (t + w)) (turns : Turns w s b r) where
+module _ (w N t : ℕ) {b s : ℕ} {r : Bool} (two : 2 ≤ w) (seen : s ≡ windowBits w N (t + w)) (turns : Decides r (Turns w s b)) where
   abbrev tie : ℕ
   tie = t + w
 
@@ -67,7 +68,7 @@ module _ (w N t : ℕ) {b s : ℕ} {r : Bool} (two : 2 ≤ w) (seen : s ≡ wind
       untied : {m : ℕ} → Untied b w N t 0 m
       untied j f h k n z =
           let q : j ≡ tie = omega arith in
-          turns .no e (λ x. (rw q at n) (sym (leads w N tie s two seen) ∙ x ∙ follows w N tie s two seen)) (leads w N tie s two seen ∙ rw q at z)
+          turns .no e ((λ x. (rw q at n) (sym (leads w N tie s two seen) ∙ x ∙ follows w N tie s two seen)), leads w N tie s two seen ∙ rw q at z)
 
   pub halt-some : r ≡ true → Halts b w N t (t + w + 1)
   halt-some e =

@@ -1,7 +1,6 @@
 -- Windows written from the top place down, with m places left and then m′: what stands in the buffer, and what it comes to. Assumes nothing.
 use mathlib.Core.Path.{_≡_}
 use mathlib.Core.Logic.{_≢_}
-use mathlib.Core.Bool.{Bool, true, false}
 use mathlib.Core.List.{List}
 use Prim.Native.Nat.{ℕ, _+_, _<_, _≤_}
 use lib.IntN.{ℤ, pos}
@@ -25,10 +24,9 @@ pub record Swept (w N floor m : ℕ) (ds : List ℤ) (m′ : ℕ) (ds′ : List 
   pub clear : Clear m′ ds′
   pub comes : (b t : ℕ) → Untied b w N t floor m → from b w N t m ds ≡ from b w N t m′ ds′
 
--- whether window s opens and leads with b
-pub record Turns (w s b : ℕ) (r : Bool) : Type 0 where
-  pub yes : r ≡ true → (leading w s ≢ second w s) × (leading w s ≡ b)
-  pub no : r ≡ false → leading w s ≢ second w s → leading w s ≢ b
+-- window s opens and leads with b
+abbrev pub Turns : (w s b : ℕ) → Type 0
+Turns w s b = (leading w s ≢ second w s) × (leading w s ≡ b)
 
 -- the descent halts at place r: over the window that turns, w places above place t, or at place 0 where none turns
 pub record Halts (b w N t r : ℕ) : Type 0 where

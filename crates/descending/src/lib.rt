@@ -4,6 +4,7 @@ ghost use mathlib.Core.Path.{_≡_};
 ghost use Prim.Native.Nat.{_+_, _-_, _/_, _%_, _^_, _<_, _≤_};
 ghost use lib.Count.{trailingZeros};
 ghost use lib.ListN.{length};
+ghost use Rattle.laws.specs.Deciding.{Decides};
 ghost use Rattle.meaning.specs.Scalars.{number, orderOf, bitCount, mostBytes};
 ghost use Rattle.meaning.specs.Digits.{mostPlaces};
 ghost use Rattle.meaning.specs.Recoding.{markWords, marksOf};
@@ -91,7 +92,7 @@ fn advance(
 // Whether window `bits` opens and leads with the bit `turn`.
 fn turns(w: u32, bits: u32, turn: u32) -> bool
     requires { ⌜ Wide w ⌝ }
-    ensures { λ r. ⌜ Turns w bits turn r ⌝ }
+    ensures { λ r. ⌜ Decides r (Turns w bits turn) ⌝ }
 {
     windows::opening::opens(w, bits) && bits >> w == turn
 }

@@ -2,6 +2,7 @@
 -- Assumes nothing.
 use mathlib.Core.Path.{_≡_, sym, ap, _∙_}
 use mathlib.Core.Logic.{_≢_}
+use mathlib.Core.Bool.{false}
 use mathlib.Core.List.{List, [], _∷_}
 use Prim.Native.Nat.{ℕ, zero, suc, _+_, _*_, _-_, _/_, _%_, _^_, _<_, _≤_}
 use native.Mathlib.Numerals.{add-one}
@@ -14,13 +15,13 @@ use lib.IntN.{ℤ, pos, natAbs, _+ℤ_, _*ℤ_}
 use lib.ListN.{length, getD, take, drop, length-take, length-drop, drop-of-length-le, List·getD-eq-default}
 use lib.Seq.{take-all, drop-cons, drop-drop}
 use lib.Pow.{shr-shr}
+use Rattle.laws.specs.Deciding.{Decides}
+use Rattle.laws.proofs.Choices.{denies}
 use Rattle.laws.proofs.Integers.{parts, diffs, ring, same-left}
 use Rattle.meaning.specs.Digits.{worth}
 use Rattle.signed.specs.Levels.{Raised}
 use Rattle.judge.specs.Levels.{level, Stretch, Level, Turned}
-use Rattle.judge.specs.Tests.{Says}
 use Rattle.judge.specs.declared.Turn.{Turn}
-use Rattle.judge.proofs.Tests.{says}
 
 -- ---- stretches of places
 -- one place and those above it, also above the string
@@ -174,14 +175,16 @@ module _ (N : ℕ) (ds : List ℤ) where
       }
 
   -- something is left
-  pub compare-stop : (q carry : ℕ) {t : Turn} → Compared N ds q carry → Turned N ds q carry t → t .left ≢ 0 → worth ds ≡ pos N → ⊥
-  compare-stop q carry h k n e = k .differs n (h .there e)
+  pub compare-stop : (q carry : ℕ) {t : Turn} → Compared N ds q carry → Turned N ds q carry t → t .left ≢ 0 → Decides false (worth ds ≡ pos N)
+  compare-stop q carry h k n = denies (λ e. k .differs n (h .there e))
 
   -- above the string and the number: nothing may be carried
-  pub compare-all : (q carry : ℕ) → Compared N ds q carry → length ds ≤ 8 * q → N < 2 ^ (8 * q) → Says (eqb carry level) (worth ds ≡ pos N)
+  pub compare-all : (q carry : ℕ) → Compared N ds q carry → length ds ≤ 8 * q → N < 2 ^ (8 * q) → Decides (eqb carry level) (worth ds ≡ pos N)
   unfolding worth
   compare-all q carry h l s =
       let none = drop-of-length-le ds {i = 8 * q} l in
       let high = div-eq-of-lt s in
-      says (eqb carry level) (λ t. h .back (rw (none, high) (ap pos (omega (arith, eqb-true carry level t)))))
-      (λ t e. eqb-false carry level t (omega (arith, ap natAbs (rw (none, high) at (h .there e)))))
+      record {
+        yes = λ t. h .back (rw (none, high) (ap pos (omega (arith, eqb-true carry level t))));
+        no = λ t e. eqb-false carry level t (omega (arith, ap natAbs (rw (none, high) at (h .there e))));
+      }

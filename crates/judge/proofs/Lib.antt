@@ -1,5 +1,4 @@
--- Laws of tests, worth, spacing and refusals that the calls cite.
-pub mod Tests
+-- Laws of worth, spacing and refusals that the calls cite.
 pub mod Levels
 pub mod Spaces
 pub mod Refusals

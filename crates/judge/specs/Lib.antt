@@ -1,4 +1,3 @@
 -- What the contracts of this crate cite beside `meaning`.
-pub mod Tests
 pub mod Levels
 pub mod Spaces

@@ -5,12 +5,12 @@ ghost use mathlib.Core.Bool.{true};
 ghost use Prim.Native.Nat.{ℕ, _+_, _*_, _^_, _≤_, _<_, max};
 ghost use lib.IntN.{pos};
 ghost use lib.ListN.{length, getD};
+ghost use Rattle.laws.specs.Deciding.{Decides};
 ghost use Rattle.meaning.specs.Scalars.{number, orderOf, mostBytes};
 ghost use Rattle.meaning.specs.Digits.{mostPlaces, worth};
 ghost use Rattle.meaning.specs.Checking.{Crowded, checkRules, nonadjacentRules, Check};
 ghost use Rattle.digits.specs.Tallies.{told};
 ghost use Rattle.scalar.specs.Orders.{ordered};
-ghost use Rattle.judge.specs.Tests.{Says};
 ghost use Rattle.signed.specs.Levels.{Raised};
 ghost use Rattle.judge.specs.Levels.{level, Stretch, Turned};
 ghost use Rattle.judge.specs.Spaces.{Freed, Clear, Spacing};
@@ -93,7 +93,7 @@ fn larger(a: usize, b: usize) -> usize
 // at any eight places, and nothing carried past the top. So no number on the way outgrows a word, and none is cut down to one.
 fn worth_is(order: u8, scalar: &[u8], digits: &[i8]) -> bool
     requires { ⌜ (length (now scalar) ≤ mostBytes) × (length (now digits) ≤ mostPlaces) ⌝ }
-    ensures { λ r. ⌜ Says r (worth (now (digits .entry)) ≡ pos (number (orderOf order) (now (scalar .entry)))) ⌝ }
+    ensures { λ r. ⌜ Decides r (worth (now (digits .entry)) ≡ pos (number (orderOf order) (now (scalar .entry)))) ⌝ }
 {
     let end = larger((digits.len() + 7) / 8, scalar.len());
     let mut carry = LEVEL;
@@ -118,7 +118,7 @@ enum Spaced {
 
 // Whether the digit at place i stands too near, where the next nonzero one may stand from place `free` on.
 fn crowds(digit: i8, i: usize, free: usize) -> bool
-    ensures { λ r. ⌜ Says r ((digit ≢ pos 0) × (i < free)) ⌝ }
+    ensures { λ r. ⌜ Decides r ((digit ≢ pos 0) × (i < free)) ⌝ }
 {
     if digit == 0 { false } else { i < free }
 }

@@ -4,6 +4,7 @@ use Prim.Native.Nat.{ℕ, zero, suc, _+_, _*_, _-_, _/_, _%_, _<_, _≤_}
 use native.Mathlib.Omega.{arith}
 use native.Mathlib.Decide.{decLe}
 use native.Mathlib.Nat.{div-add-mod, mod-lt, lt-of-mul-lt-mul-left}
+use lib.Arith.{digits-div}
 use lib.IntN.{ℤ, pos, negsuc, negℤ, natAbs, _+ℤ_, _*ℤ_, +ℤ-idr}
 use Rattle.laws.proofs.Integers.{up, dn, parts, diffs, ring, abs, abs-neg}
 
@@ -65,6 +66,10 @@ parity z = go (floor z 2 (omega arith))
     go f = pick (f .quo) (f .rem) (f .below) (f .is)
 
 -- ---- one only
+-- a quotient by its bounds
+pub quotient : (s P q : ℕ) → q * P ≤ s → s < q * P + P → s / P ≡ q
+quotient s P q h l = ap (λ t. t / P) (omega arith) ∙ digits-div q {m = P} {r = s - q * P} (omega arith)
+
 -- a quotient by W with a remainder below W / 2
 pub same-quo : (W : ℕ) (X X′ r r′ : ℤ) → pos W *ℤ X +ℤ r ≡ pos W *ℤ X′ +ℤ r′ → 2 * natAbs r < W → 2 * natAbs r′ < W → X ≡ X′
 same-quo W X X′ r r′ e h h′ =

@@ -195,6 +195,21 @@ same-left x y z e = let k = simp diffs at (rw (parts x, parts y, parts z) at e) 
 pub sub-zero-same : (x y : ℤ) → x -ℤ y ≡ pos 0 → x ≡ y
 sub-zero-same x y z = let k = simp diffs at (rw (parts x, parts y) at z) in rw (parts x, parts y) (omega ring)
 
+-- ---- differences of naturals
+pub above : (a c : ℕ) → c ≤ a → pos a -ℤ pos c ≡ pos (a - c)
+above a c h = rw (minus c) (simp diffs (omega ring))
+
+pub beneath : (a c : ℕ) → a < c → pos a -ℤ pos c ≡ negsuc (c - 1 - a)
+beneath a c h = rw (minus c) (simp diffs (omega ring))
+
+-- what two take from a smaller number
+pub beneath-more : (a b c : ℕ) → a ≤ b → pos a -ℤ pos b -ℤ pos c ≡ negℤ (pos (b - a + c))
+beneath-more a b c h = rw (minus (b - a + c), minus b, minus c) (simp diffs (omega ring))
+
+-- taken off, and put back
+pub again : (a c : ℕ) → pos a ≡ (pos a -ℤ pos c) +ℤ pos c
+again a c = rw (minus c) (simp diffs (omega ring))
+
 -- nothing taken off
 pub sub-none : (z : ℤ) → z -ℤ pos 0 ≡ z
 sub-none z = rw (parts z) (simp diffs (omega ring))

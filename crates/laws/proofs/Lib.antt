@@ -10,3 +10,4 @@ pub mod Runs
 pub mod Parts
 pub mod Tables
 pub mod Signed
+pub mod Packing

@@ -11,6 +11,9 @@ use Rattle.laws.proofs.Integers.{parts, diffs, ring}
 pub pow-pred : (w : ℕ) → 1 ≤ w → 2 ^ w ≡ 2 * 2 ^ (w - 1)
 pow-pred w h = ap (λ t. 2 ^ t) (omega arith) ∙ pow-succ' 2 (w - 1)
 
+pub pow-next : (w : ℕ) → 2 ^ (w + 1) ≡ 2 * 2 ^ w
+pow-next w = ap (λ t. 2 ^ t) (omega arith) ∙ pow-succ' 2 w
+
 pub pow-four : (w : ℕ) → 2 ≤ w → (Q : ℕ) × (2 ^ w ≡ 4 * Q)
 pow-four zero h = absurd (omega arith)
 pow-four (suc zero) h = absurd (omega arith)

@@ -1,17 +1,18 @@
--- Signed machine numbers: a magnitude as code finds it, widened from one width to another and taken from 0, by one law for every two widths; and a small
--- number as a signed one, with or without its sign changed. Assumes nothing.
+-- Signed machine numbers: a magnitude as code finds it, widened from one width to another and taken from 0, by one law for every two widths; a small
+-- number as a signed one, with or without its sign changed; and a byte kept above what it is. Assumes nothing.
 use mathlib.Core.Path.{_≡_, ap, sym, _∙_, subst}
 use mathlib.Core.Bool.{Bool, true, false}
-use Prim.Native.Nat.{ℕ, zero, suc, _^_, _<_}
+use Prim.Native.Nat.{ℕ, zero, suc, _^_, _<_, _≤_}
 use native.Mathlib.Omega.{arith}
+use native.Mathlib.Decide.{decLe}
 use lib.Dec.{T, leb·suc-zero}
 use lib.Pow.{pow-pos}
 use lib.Signed.{mag, ltZ, nonNeg}
-use lib.IntN.{ℤ, pos, negsuc, negℤ, natAbs, _-ℤ_, +ℤ-idl}
-use mir.Syntax.{Width}
+use lib.IntN.{ℤ, pos, negsuc, negℤ, natAbs, _+ℤ_, _-ℤ_, +ℤ-idl}
+use mir.Syntax.{Width, w8, w32}
 use mir.Val.{SFits, Fits, toZ, ofZ, bits, hbits}
 use mir.Facts.{toZ-ofZ}
-use Rattle.laws.proofs.Integers.{abs-negate}
+use Rattle.laws.proofs.Integers.{abs-negate, above, beneath, again}
 
 abbrev below0 : ℤ → Bool
 below0 z = ltZ z (pos 0)
@@ -83,6 +84,34 @@ module _ (w : Width) (n : ℕ) (h : n < 2 ^ hbits w) where
 
   pub negated-back : toZ w (ofZ w (pos 0 -ℤ toZ w n)) ≡ negℤ (pos n)
   negated-back = toZ-ofZ negated-fits ∙ negated-is
+
+-- ---- a byte that was kept 128 above what it is, taken down again as code does it: widened, taken from, and narrowed
+module _ (b : ℕ) (h : b < 256) where
+  abbrev Down : ℤ
+  Down = toZ w32 b -ℤ toZ w32 128
+
+  down-is : Down ≡ pos b -ℤ pos 128
+  down-is = ap (λ z. z -ℤ toZ w32 128) (plain-is w32 b (omega arith))
+
+  -- it is a signed byte
+  byte : mag (pos b -ℤ pos 128) < 128
+  byte = go (decLe 128 b)
+    where
+      go : Dec (128 ≤ b) → mag (pos b -ℤ pos 128) < 128
+      go (yes l) = subst (λ z. mag z < 128) (sym (above b 128 l)) (omega arith)
+      go (no l) = subst (λ z. mag z < 128) (sym (beneath b 128 (omega arith))) (omega arith)
+
+  pub lower-fits : SFits w32 Down
+  lower-fits = subst (SFits w32) (sym down-is) (record { sfits = omega (arith, byte) })
+
+  lower-back : toZ w32 (ofZ w32 Down) ≡ pos b -ℤ pos 128
+  lower-back = toZ-ofZ lower-fits ∙ down-is
+
+  pub lower-small : SFits w8 (toZ w32 (ofZ w32 Down))
+  lower-small = subst (SFits w8) (sym lower-back) (record { sfits = byte })
+
+  pub lowered : pos b ≡ toZ w8 (ofZ w8 (toZ w32 (ofZ w32 Down))) +ℤ pos 128
+  lowered = again b 128 ∙ ap (λ z. z +ℤ pos 128) (sym (toZ-ofZ lower-small ∙ lower-back))
 
 -- ---- a signed number's bits are 0 where it is
 pub bits-none : (w : Width) (z : ℤ) → SFits w z → ofZ w z ≡ 0 → z ≡ pos 0

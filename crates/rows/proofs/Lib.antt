@@ -1,2 +1,2 @@
 -- Laws of eight entries in a word.
-pub mod Packing
+pub mod Entries

@@ -7,12 +7,14 @@ use Prim.Native.Nat.{ℕ, _<_}
 use native.Mathlib.Omega.{arith}
 use borrow.Author.Tests.{ltb-true, ltb-false, eqb-true, eqb-false, not-true, not-false}
 use lib.Dec.{ltb, eqb}
+use Rattle.laws.specs.Deciding.{Decides}
+use Rattle.laws.proofs.Choices.{denies}
 use Rattle.meaning.specs.Words as Words
 use Rattle.meaning.specs.Words.{codeOf, entryOf, double, load, add, bad, stepOf}
+use Rattle.meaning.specs.Walks.{Good}
 use Rattle.tape.specs.declared.Step.{Step}
 use Rattle.tape.specs.Steps.{told}
 use Rattle.walk.proofs.Words.{Says, step-says, signed-le}
-use Rattle.run.specs.Words.{Judged}
 
 -- what the step of a word says of it
 pub says : (x : ℕ) {s : Step} → told s ≡ stepOf x → {t : Step} → s ≡ t → Says (told t) (codeOf x) (entryOf x)
@@ -20,7 +22,7 @@ says x is {t} e = subst (λ u. Says u (codeOf x) (entryOf x)) (sym is ∙ ap tol
 
 module _ (count i x : ℕ) where
   -- a double is good anywhere but first
-  pub judged-double : 0 < count → Says double (codeOf x) (entryOf x) → Judged count i x (not (eqb i 0))
+  pub judged-double : 0 < count → Says double (codeOf x) (entryOf x) → Decides (not (eqb i 0)) (Good count i x)
   judged-double some (c, e) =
       record {
         yes = λ t. let n = eqb-false i 0 (not-true (eqb i 0) t) in
@@ -35,7 +37,7 @@ module _ (count i x : ℕ) where
       }
 
   -- a load is good first alone, if its entry is there
-  pub judged-load : (s : Words.Sign) (n : ℕ) {r : Bool} → Says (load s n) (codeOf x) (entryOf x) → i ≡ 0 → r ≡ ltb n count → Judged count i x r
+  pub judged-load : (s : Words.Sign) (n : ℕ) {r : Bool} → Says (load s n) (codeOf x) (entryOf x) → i ≡ 0 → r ≡ ltb n count → Decides r (Good count i x)
   judged-load s n {r} (c, e) z p =
       let (a, b) = signed-le s 1 in
       record {
@@ -49,13 +51,13 @@ module _ (count i x : ℕ) where
         no = λ f g. omega (arith, ltb-false n count (sym p ∙ f), g .entry);
       }
 
-  pub judged-late : (s : Words.Sign) (n : ℕ) → Says (load s n) (codeOf x) (entryOf x) → i ≢ 0 → Judged count i x (eqb i 0)
+  pub judged-late : (s : Words.Sign) (n : ℕ) → Says (load s n) (codeOf x) (entryOf x) → i ≢ 0 → Decides (eqb i 0) (Good count i x)
   judged-late s n (c, e) l =
       let (a, b) = signed-le s 1 in
       record { yes = λ t. absurd (l (eqb-true i 0 t)); no = λ f g. g .later l (omega arith, omega arith) }
 
   -- an addition is good anywhere but first, if its entry is there
-  pub judged-add : (s : Words.Sign) (n : ℕ) {r : Bool} → Says (add s n) (codeOf x) (entryOf x) → i ≢ 0 → r ≡ ltb n count → Judged count i x r
+  pub judged-add : (s : Words.Sign) (n : ℕ) {r : Bool} → Says (add s n) (codeOf x) (entryOf x) → i ≢ 0 → r ≡ ltb n count → Decides r (Good count i x)
   judged-add s n {r} (c, e) l p =
       let (a, b) = signed-le s 3 in
       record {
@@ -69,7 +71,7 @@ module _ (count i x : ℕ) where
         no = λ f g. omega (arith, ltb-false n count (sym p ∙ f), g .entry);
       }
 
-  pub judged-early : (s : Words.Sign) (n : ℕ) → Says (add s n) (codeOf x) (entryOf x) → i ≡ 0 → Judged count i x (not (eqb i 0))
+  pub judged-early : (s : Words.Sign) (n : ℕ) → Says (add s n) (codeOf x) (entryOf x) → i ≡ 0 → Decides (not (eqb i 0)) (Good count i x)
   judged-early s n (c, e) z =
       let (a, b) = signed-le s 3 in
       record {
@@ -78,9 +80,5 @@ module _ (count i x : ℕ) where
       }
 
   -- a bad step's word is bad
-  pub judged-bad : Says bad (codeOf x) (entryOf x) → Judged count i x false
-  judged-bad s =
-      record {
-        yes = λ t. absurd (let z : _≡_ {A = ℕ} 0 1 = cc in omega arith);
-        no = λ f g. ⊎-elim (λ o. omega (arith, g .code)) (λ o. omega (arith, g .double (o .0), o .1)) s;
-      }
+  pub judged-bad : Says bad (codeOf x) (entryOf x) → Decides false (Good count i x)
+  judged-bad s = denies (λ g. ⊎-elim (λ o. omega (arith, g .code)) (λ o. omega (arith, g .double (o .0), o .1)) s)

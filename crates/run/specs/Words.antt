@@ -1,19 +1,11 @@
--- Words judged one by one, where there are `count` entries.
+-- Words judged one by one.
 -- Assumes nothing.
-use mathlib.Core.Path.{_≡_}
-use mathlib.Core.Bool.{Bool, true, false}
 use mathlib.Core.List.{List}
 use Prim.Native.Nat.{ℕ, _<_, _≤_}
 use lib.ListN.{length, getD}
-use Rattle.meaning.specs.Walks.{Good}
 
--- r says whether the word x is good at index i
-pub record Judged (count i x : ℕ) (r : Bool) : Type 0 where
-  pub yes : r ≡ true → Good count i x
-  pub no : r ≡ false → Good count i x → ⊥
-
--- the words before index r are good, and the word at r is not, unless the words end there
-pub record Sifted (count : ℕ) (ws : List ℕ) (r : ℕ) : Type 0 where
+-- the words before index r are right each at its index, and the word at r is not, unless the words end there
+pub record Sifted (Right : (i word : ℕ) → Type 0) (ws : List ℕ) (r : ℕ) : Type 0 where
   pub within : r ≤ length ws
-  pub before : (i : ℕ) → i < r → Good count i (getD ws i 0)
-  pub here : r < length ws → Good count r (getD ws r 0) → ⊥
+  pub before : (i : ℕ) → i < r → Right i (getD ws i 0)
+  pub here : r < length ws → Right r (getD ws r 0) → ⊥

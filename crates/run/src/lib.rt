@@ -4,14 +4,16 @@ ghost use mathlib.Core.List.{_++_};
 ghost use Prim.Native.Nat.{ℕ, _+_, _%_, _≤_, _<_};
 ghost use lib.Dec.{ltb};
 ghost use lib.ListN.{length, getD, drop};
+ghost use Rattle.laws.specs.Deciding.{Decides};
 ghost use Rattle.meaning.specs.Words.{mostWords};
+ghost use Rattle.meaning.specs.Walks.{Good};
 ghost use Rattle.meaning.specs.Multiples.{costOf};
 ghost use Rattle.meaning.specs.Running.{multiplesOf};
 ghost use Rattle.walk.specs.Steps.{Stepped, Reached};
 ghost use Rattle.walk.specs.Residues.{residues};
 ghost use Rattle.tape.specs.Steps.{side};
 ghost use Rattle.run.specs.Outcomes.{refusal, Promise};
-ghost use Rattle.run.specs.Words.{Judged, Sifted};
+ghost use Rattle.run.specs.Words.{Sifted};
 ghost use Rattle.run.specs.Walks.{entryIn, tableOf, Held, Steady};
 use tape::Move;
 use tape::Sign;
@@ -31,7 +33,7 @@ fn held(count: usize, step: Move) -> bool
 // Whether a word is good at its index: the first is a load, and no other is.
 pub fn good(count: usize, index: usize, word: u16) -> bool
     requires { ⌜ 0 < count ⌝ }
-    ensures { λ r. ⌜ Judged count index word r ⌝ }
+    ensures { λ r. ⌜ Decides r (Good count index word) ⌝ }
 {
     match tape::decode(word) {
         Step::Double => index != 0,
@@ -44,7 +46,7 @@ pub fn good(count: usize, index: usize, word: u16) -> bool
 // The index of the first bad word, or the count of words.
 pub fn first_bad(count: usize, words: &[u16]) -> usize
     requires { ⌜ 0 < count ⌝ }
-    ensures { λ r. ⌜ Sifted count (now (words .entry)) r ⌝ }
+    ensures { λ r. ⌜ Sifted (Good count) (now (words .entry)) r ⌝ }
 {
     let mut i = 0;
     while i < words.len() {

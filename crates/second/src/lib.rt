@@ -4,10 +4,12 @@ ghost use mathlib.Core.Logic.{_≢_};
 ghost use mathlib.Core.List.{_++_};
 ghost use Prim.Native.Nat.{ℕ, _*_, _≤_, _<_};
 ghost use lib.ListN.{length, getD, drop};
+ghost use Rattle.laws.specs.Deciding.{Decides};
 ghost use Rattle.meaning.specs.Words.{entryOf, bad, stepOf};
 ghost use Rattle.meaning.specs.Walks.{Good};
-ghost use Rattle.meaning.specs.SecondChip.{translated as translatedBy, translation, secondMultiplesOf, Translate};
-ghost use Rattle.second.specs.Words.{Negates, Judged, Sifted};
+ghost use Rattle.meaning.specs.SecondChip.{SecondGood, translated as translatedBy, translation, secondMultiplesOf, Translate};
+ghost use Rattle.run.specs.Words.{Sifted};
+ghost use Rattle.second.specs.Words.{Negates};
 ghost use Rattle.second.specs.Promises.{translated, Promise};
 use run::Outcome;
 use run::Ran;
@@ -21,7 +23,7 @@ const CODE: u16 = 4096;
 
 // Whether a word negates its entry: a load negated, or a subtraction.
 fn negates(word: u16) -> bool
-    ensures { λ r. ⌜ Negates word r ⌝ }
+    ensures { λ r. ⌜ Decides r (Negates word) ⌝ }
 {
     let code = word / CODE;
     code == 2 || code == 4
@@ -104,7 +106,7 @@ pub fn translate(set: DigitSet, tape: &[u16], words: &mut [u16]) -> Translated
 // Whether a word is good at its index: as in a tape, and it negates nothing.
 fn good(count: usize, index: usize, word: u16) -> bool
     requires { ⌜ 0 < count ⌝ }
-    ensures { λ r. ⌜ Judged count index word r ⌝ }
+    ensures { λ r. ⌜ Decides r (SecondGood count index word) ⌝ }
 {
     if negates(word) {
         false
@@ -116,7 +118,7 @@ fn good(count: usize, index: usize, word: u16) -> bool
 // The index of the first bad word, or the count of words.
 fn first_bad(count: usize, words: &[u16]) -> usize
     requires { ⌜ 0 < count ⌝ }
-    ensures { λ r. ⌜ Sifted count (now (words .entry)) r ⌝ }
+    ensures { λ r. ⌜ Sifted (SecondGood count) (now (words .entry)) r ⌝ }
 {
     let mut i = 0;
     while i < words.len() {

@@ -13,14 +13,14 @@ use lib.IntN.{ℤ, pos, negℤ, natAbs, _-ℤ_, +ℤ-idr}
 use lib.Pow.{pow-pos, pow-mono, pow-add, low, shr-le}
 use Rattle.laws.proofs.Choices.{either, no-is, not-equal, unequal}
 use Rattle.laws.proofs.Integers.{abs-neg, diffs, ring, minus}
-use Rattle.laws.proofs.Powers.{pow-pred, trailing-any, odd-part}
+use Rattle.laws.proofs.Powers.{pow-pred, pow-next, trailing-any, odd-part}
 use Rattle.meaning.specs.Digits.{mostWidth}
 use Rattle.meaning.specs.Windows.{leading, second, windowWorth, twos, shrink, oddPart, entryUnit, entryTwos}
 use Rattle.forms.proofs.Block.{unit-block}
 use Rattle.width.specs.Widths.{Wide}
 use Rattle.table.specs.declared.Window.{Window}
 use Rattle.windows.specs.Parts.{Parts}
-use Rattle.windows.proofs.Sizes.{Sized, signed, double, rise, fall}
+use Rattle.windows.proofs.Sizes.{Sized, signed, rise, fall}
 
 -- the size of a size and a sign
 abs-signed : (minus : Bool) (n : ℕ) → natAbs (signed minus n) ≡ n
@@ -176,14 +176,14 @@ module _ (w s less : ℕ) (lawful : Wide w) (l : s < 2 ^ (w + 1)) (d : leading w
           let z = fall w s less (lawful .0) l d o h in
           let P = 2 ^ k in
           let A = 2 ^ (w - k) in
-          let n-is : 2 ^ w - (s + 1) / 2 + less ≡ 2 ^ w - half = omega (arith, double w) in
+          let n-is : 2 ^ w - (s + 1) / 2 + less ≡ 2 ^ w - half = omega (arith, pow-next w) in
           let some : 0 < half = omega (arith, z .most, z .some, n-is) in
           let under : half < 2 ^ w = omega (arith, z .some, n-is) in
           let under-32 : half < 2 ^ 32 = omega (arith, wide) in
           let e : trailingZeros 32 (2 ^ w - (s + 1) / 2 + less) ≡ k = ap (trailingZeros 32) n-is ∙ zeros-missing 32 w half some under in
           let short : k < w = omega (arith, trailing-any 32 w half some under-32 under, odd-part w half some under .2) in
           let top : s ≡ 1 * 2 ^ w + (s - 2 ^ w) = omega arith in
-          let leads : s - s % 2 ^ w ≡ 2 ^ w = omega (arith, ap (λ t. t % 2 ^ w) top ∙ low 1 w (omega (arith, double w))) in
+          let leads : s - s % 2 ^ w ≡ 2 ^ w = omega (arith, ap (λ t. t % 2 ^ w) top ∙ low 1 w (omega (arith, pow-next w))) in
           let full : 2 ^ w ≡ P * A = ap (λ t. 2 ^ t) (omega arith) ∙ pow-add 2 k (w - k) in
           let down-is : down ≡ A = ap (λ t. t / P) leads ∙ div-eq-of-eq-mul-right (pow-pos k) full in
           let up-is : half ≡ P * up = odd-part 32 half some under-32 .0 in

@@ -12,13 +12,14 @@ use lib.Pow.{pow-pos, shl-shr, shr-shr, mod-mod-pow}
 use Rattle.meaning.specs.Scalars.{bit, below}
 use Rattle.meaning.specs.Windows.{windowBits, windowWorth, leading, second, twos, oddPart, entryUnit, entryTwos}
 use Rattle.meaning.specs.Wmof.{windowAt, spot}
-use Rattle.laws.proofs.Choices.{no-is, not-equal}
+use Rattle.laws.specs.Deciding.{Decides}
+use Rattle.laws.proofs.Choices.{no-is, not-equal, not-different}
 use Rattle.laws.proofs.Integers.{sub-none}
 use Rattle.forms.proofs.Rest.{bits-top, bits-next, rest, differ}
 use Rattle.forms.proofs.Wmof.{At, step-at, window-step}
 use Rattle.table.specs.declared.Window.{Window}
 use Rattle.windows.specs.declared.opening.Place.{Place}
-use Rattle.windows.specs.Openings.{Tells, Placed}
+use Rattle.windows.specs.Openings.{Opens, Placed}
 use Rattle.windows.specs.Parts.{Parts}
 
 -- it has w + 1 bits
@@ -72,9 +73,9 @@ module _ (w N i s : ℕ) (two : 2 ≤ w) (seen : s ≡ windowBits w N i) where
   follows = ap (λ x. x / 2 ^ (w - 1) % 2) seen ∙ opened-second w N i (omega arith)
 
   -- so whether the window opens tells whether they are different
-  module _ (r : Bool) (tells : Tells w s r) where
+  module _ (r : Bool) (tells : Decides r (Opens w s)) where
     pub bits-same : r ≡ false → bit N i ≡ below N i
-    bits-same e = sym leads ∙ tells .no e ∙ follows
+    bits-same e = sym leads ∙ not-different (leading w s) (second w s) (tells .no e) ∙ follows
 
     pub bits-differ : r ≡ true → bit N i ≢ below N i
     bits-differ e d = tells .yes e (leads ∙ d ∙ sym follows)

@@ -1,16 +1,14 @@
 -- Whether a window opens, and where its digit stands. Assumes nothing.
 use mathlib.Core.Path.{_≡_}
 use mathlib.Core.Logic.{_≢_}
-use mathlib.Core.Bool.{Bool, true, false}
 use Prim.Native.Nat.{ℕ, _+_, _-_}
 use Rattle.meaning.specs.Windows.{leading, second}
 use Rattle.table.specs.declared.Window.{Window}
 use Rattle.windows.specs.declared.opening.Place.{Place}
 
--- whether the two leading bits of window s are different
-pub record Tells (w s : ℕ) (r : Bool) : Type 0 where
-  pub yes : r ≡ true → leading w s ≢ second w s
-  pub no : r ≡ false → leading w s ≡ second w s
+-- the two leading bits of window s are different
+abbrev pub Opens : (w s : ℕ) → Type 0
+Opens w s = leading w s ≢ second w s
 
 -- the digit of a window over m places, its place, and the places left under the window
 pub record Placed (w : ℕ) (x : Window) (m : ℕ) (r : Place) : Type 0 where

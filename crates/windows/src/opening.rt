@@ -1,9 +1,10 @@
 // The window that opens over so many places of a scalar, and where its digit stands.
 ghost use Prim.Native.Nat.{_+_, _-_, _≤_, _<_};
 ghost use mathlib.Core.Path.{_≡_};
+ghost use Rattle.laws.specs.Deciding.{Decides};
 ghost use Rattle.meaning.specs.Digits.{mostPlaces};
 ghost use Rattle.width.specs.Widths.{Wide};
-ghost use Rattle.windows.specs.Openings.{Tells, Placed};
+ghost use Rattle.windows.specs.Openings.{Opens, Placed};
 use table::Window;
 
 // A window's digit and its place, and how many places are left under the window.
@@ -23,7 +24,7 @@ pub fn under(left: usize, span: usize) -> usize
 // Whether window s opens: whether its two leading bits are different.
 pub fn opens(w: u32, s: u32) -> bool
     requires { ⌜ Wide w ⌝ }
-    ensures { λ r. ⌜ Tells w s r ⌝ }
+    ensures { λ r. ⌜ Decides r (Opens w s) ⌝ }
 {
     s >> w != (s >> (w - 1)) % 2
 }

@@ -6,6 +6,7 @@ use borrow.Author.Needs.{needs}
 use borrow.Author.Tests.{not-true, not-false}
 use denote.Ref.{now}
 use lib.IntN.{pos}
+use Rattle.laws.specs.Deciding.{Decides}
 use Rattle.forms.proofs.Strings.{weight-le, top-le}
 use Rattle.meaning.specs.Scalars.{number}
 use Rattle.meaning.specs.Digits.{mostPlaces, worth}
@@ -17,8 +18,6 @@ use Rattle.scalar.specs.Orders.{ordered}
 use Rattle.width.proofs.Widths.{known-bits, known-wide, known-whole, known-bad, reached-largest, reached-pair, reached-none, pair-some, set-fine, width-fine}
 use Rattle.digits.specs.Scans.{Whole, Scan}
 use Rattle.scalar.proofs.Orders.{code-tells}
-use Rattle.judge.specs.Tests.{Says}
-use Rattle.judge.proofs.Tests.{said, denied}
 use Rattle.forms.proofs.Refusals.{first-none}
 use Rattle.judge.proofs.Refusals.{refuses}
 use Rattle.judge.proofs.check.Statement.{statement}
@@ -102,7 +101,7 @@ cast-refused c =
     omega (arith, b .within, c .before .before .before .before .if2 .left)
 
 -- the worth was held against the scalar in the order that was told
-judged : (c : tie.After-worth-is) → let a = start (c .before .before .before .before .before) .args in Says (c .worth-is .result) (worth (now (a .digits)) ≡ pos (number (ordered (a .order)) (now (a .scalar))))
+judged : (c : tie.After-worth-is) → let a = start (c .before .before .before .before .before) .args in Decides (c .worth-is .result) (worth (now (a .digits)) ≡ pos (number (ordered (a .order)) (now (a .scalar))))
 judged c =
     let a = start (c .before .before .before .before .before) .args in
     rw (c .before .code-of .ensures, code-tells (ordered (a .order))) at (c .worth-is .ensures)
@@ -114,7 +113,7 @@ returns-5 c =
     let s = n .before .before in
     let a = start s .args in
     refuses (checkRules (a .set .width) (a .set .largest) (ordered (a .order)) (now (a .scalar)) (now (a .digits))) tt (now (a .digits)) 5 0 (c .refused6 .ensures)
-    (fine (found s) .0, (fine (found s) .1, ((λ l. omega (arith, s .before .before .if1 .left)), ((λ l. omega (arith, s .before .if2 .left)), (whole n .sound, (denied (judged v) (not-true (v .worth-is .result) (c .before .if3 .taken)), refl))))))
+    (fine (found s) .0, (fine (found s) .1, ((λ l. omega (arith, s .before .before .if1 .left)), ((λ l. omega (arith, s .before .if2 .left)), (whole n .sound, (judged v .no (not-true (v .worth-is .result) (c .before .if3 .taken)), refl))))))
 
 -- the counts are those of a short string
 few : (c : tie.After-count) → (c .count .given .0 .0 .weight ≤ mostPlaces) × (c .count .given .0 .0 .top ≤ mostPlaces)
@@ -145,7 +144,7 @@ returns-7 c =
     record {
       first =
           first-none (checkRules (a .set .width) (a .set .largest) (ordered (a .order)) (now (a .scalar)) (now (a .digits)))
-          (fine (found s) .0, (fine (found s) .1, ((λ l. omega (arith, s .before .before .if1 .left)), ((λ l. omega (arith, s .before .if2 .left)), (whole n .sound, ((λ h. h (said (judged v) (not-false (v .worth-is .result) (c .before .before .if3 .left)))), tt))))));
+          (fine (found s) .0, (fine (found s) .1, ((λ l. omega (arith, s .before .before .if1 .left)), ((λ l. omega (arith, s .before .if2 .left)), (whole n .sound, ((λ h. h (judged v .yes (not-false (v .worth-is .result) (c .before .before .if3 .left)))), tt))))));
       weight-is = whole n .weight-is;
       top-is = whole n .top-is;
     }

@@ -7,7 +7,7 @@ use lib.ListN.{length}
 use mir.Syntax.{w8}
 use mir.Facts.{toZ-ofZ}
 use denote.Ref.{now}
-use Rattle.judge.proofs.Tests.{both-true}
+use Rattle.laws.proofs.Choices.{both-true}
 use Rattle.judge.proofs.Spaces.{Cleared, clear-none, clear-more, clear-all}
 use Rattle.judge.proofs.clear.Statement.{statement}
 use Rattle.judge.proofs.clear.Tie as tie

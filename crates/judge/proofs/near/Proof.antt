@@ -8,7 +8,6 @@ use mir.Facts.{toZ-ofZ}
 use denote.Ref.{now}
 use Rattle.meaning.specs.Refusals.{Lowest}
 use Rattle.meaning.specs.Checking.{Crowded}
-use Rattle.judge.proofs.Tests.{said, denied}
 use Rattle.judge.proofs.Spaces.{Roomy, room-none, room-more, room-short, room-all}
 use Rattle.judge.proofs.near.Statement.{statement}
 use Rattle.judge.proofs.near.Tie as tie
@@ -34,7 +33,7 @@ short c =
     let a = c .before .before .before .before .before .args in
     let l = c .before .before .before .before .loop in
     let digit = toZ-ofZ {w = w8} (record { sfits = c .before .before .digit .given }) in
-    room-short (a .w) (now (a .digits)) (l .free) (l .i) (l .inv) digit (said (c .before .crowds .ensures) (c .if1 .taken))
+    room-short (a .w) (now (a .digits)) (l .free) (l .i) (l .inv) digit (c .before .crowds .ensures .yes (c .if1 .taken))
 
 sub-t11 : tie.Need-sub-t11 Inv-loop μ-loop
 sub-t11 c = short c .0
@@ -57,7 +56,7 @@ loop-again c =
     let a = k .before .before .before .before .args in
     let l = k .before .before .before .loop in
     let digit = toZ-ofZ {w = w8} (record { sfits = k .before .digit .given }) in
-    room-more (a .w) (now (a .digits)) (l .free) (c .freed .result) (l .i) (l .inv) digit (denied (k .crowds .ensures) (c .before .if1 .left)) (c .freed .ensures)
+    room-more (a .w) (now (a .digits)) (l .free) (c .freed .result) (l .i) (l .inv) digit (k .crowds .ensures .no (c .before .if1 .left)) (c .freed .ensures)
 
 returns-2 : tie.Need-returns-2 Inv-loop μ-loop
 returns-2 c =

@@ -64,8 +64,8 @@ room f = omega (arith, count-is (f .before .before .before), f .before .before .
 room′ : (f : tie.After-first-bad) → let a = start (byWords f) .args in entries (a .set .largest) ≤ length (a .inverses .now)
 room′ f = omega (arith, count-is (f .before .before .before), f .before .if4 .left)
 
-sifted : (f : tie.After-first-bad) → let a = start (byWords f) .args in Sifted (entries (a .set .largest)) (a .tape .now) (f .first-bad .result)
-sifted f = subst (λ n. Sifted n (start (byWords f) .args .tape .now) (f .first-bad .result)) (count-is (f .before .before .before)) (f .first-bad .ensures)
+sifted : (f : tie.After-first-bad) → let a = start (byWords f) .args in Sifted (Good (entries (a .set .largest))) (a .tape .now) (f .first-bad .result)
+sifted f = subst (λ n. Sifted (Good n) (start (byWords f) .args .tape .now) (f .first-bad .result)) (count-is (f .before .before .before)) (f .first-bad .ensures)
 
 -- all words are good where none is bad
 good : (f : tie.After-first-bad) → let a = start (byWords f) .args in length (a .tape .now) ≤ f .first-bad .result → (i : ℕ) → i < length (a .tape .now) → Good (entries (a .set .largest)) i (getD (a .tape .now) i 0)

@@ -4,9 +4,10 @@ use Prim.Native.Nat.{suc, _-_}
 use native.Mathlib.Omega.{arith}
 use borrow.Author.Needs.{needs}
 use denote.Ref.{now}
+use Rattle.laws.specs.Deciding.{Decides}
 use Rattle.meaning.specs.Scalars.{number, orderOf}
 use Rattle.meaning.specs.Windows.{windowBits}
-use Rattle.windows.specs.Openings.{Tells}
+use Rattle.windows.specs.Openings.{Opens}
 use Rattle.windows.proofs.Opened.{bits-same, bits-differ}
 use Rattle.reader.proofs.Takes.{opened-none, opened-some}
 use Rattle.reader.proofs.end_of.Statement.{statement}
@@ -17,7 +18,7 @@ seen : (c : tie.After-window) → let a = c .before .before .before .args in c .
 seen c = rw (c .before .bits .ensures) at (c .window .ensures)
 
 -- whether its two leading bits are different
-tells : (c : tie.After-opens) → Tells (c .before .before .before .before .args .w .bits) (c .before .window .result) (c .opens .result)
+tells : (c : tie.After-opens) → Decides (c .opens .result) (Opens (c .before .before .before .before .args .w .bits) (c .before .window .result))
 tells c = rw (c .before .before .bits .ensures) at (c .opens .ensures)
 
 returns : tie.Need-returns

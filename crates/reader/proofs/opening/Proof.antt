@@ -7,10 +7,11 @@ use borrow.Author.Needs.{needs, sfits-of}
 use denote.Ref.{now}
 use mir.Syntax.{w8}
 use mir.Facts.{toZ-ofZ}
+use Rattle.laws.specs.Deciding.{Decides}
 use Rattle.meaning.specs.Scalars.{number, orderOf, bit, below}
 use Rattle.meaning.specs.Windows.{windowBits, twos, oddPart}
 use Rattle.meaning.specs.Wmof.{windowAt}
-use Rattle.windows.specs.Openings.{Tells}
+use Rattle.windows.specs.Openings.{Opens}
 use Rattle.windows.specs.Parts.{Parts}
 use Rattle.windows.proofs.Opened.{opened-lt, opened-at, bits-same, bits-differ, looked, puts}
 use Rattle.reader.proofs.Takes.{opened-none, opened-some}
@@ -22,7 +23,7 @@ seen : (c : tie.After-window) → let a = c .before .before .before .args in c .
 seen c = rw (c .before .bits .ensures) at (c .window .ensures)
 
 -- whether its two leading bits are different
-tells : (c : tie.After-opens) → Tells (c .before .before .before .before .args .w .bits) (c .before .window .result) (c .opens .result)
+tells : (c : tie.After-opens) → Decides (c .opens .result) (Opens (c .before .before .before .before .args .w .bits) (c .before .window .result))
 tells c = rw (c .before .before .bits .ensures) at (c .opens .ensures)
 
 -- as they are where it opens

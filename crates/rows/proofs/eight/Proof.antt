@@ -8,8 +8,9 @@ use lib.ListN.{getD}
 use denote.Ref.{now}
 use mir.Syntax.{w8}
 use mir.Facts.{toZ-ofZ}
+use Rattle.laws.proofs.Packing.{Packed, packed-none, packed-room, packed-more}
 use Rattle.signed.specs.Levels.{Raised}
-use Rattle.rows.proofs.Packing.{Packed, packed-none, packed-room, packed-more, packed-row}
+use Rattle.rows.proofs.Entries.{packed-row}
 use Rattle.rows.proofs.eight.Statement.{statement}
 use Rattle.rows.proofs.eight.Tie as tie
 
@@ -67,7 +68,7 @@ loop-again c =
     let more : l .at + 1 - a .from ≡ n + 1 = omega arith in
     let z = toZ-ofZ {w = w8} (record { sfits = c .before .raised-arg .given }) in
     let r = subst (λ d. Raised 128 d (c .raised .result)) (z ∙ ap (λ i. getD xs i (pos 0)) (sym at)) (c .raised .ensures) in
-    (omega arith, omega arith, subst (λ m. Packed xs (a .from) m (256 * l .word + c .raised .result)) (sym more) (packed-more xs (a .from) n (l .word) (c .raised .result) (l .inv .2) r))
+    (omega arith, omega arith, subst (λ m. Packed xs (a .from) m (256 * l .word + c .raised .result)) (sym more) (packed-more xs (a .from) n (l .word) (c .raised .result) (l .inv .2) (r .is) (r .most)))
 
 returns : tie.Need-returns Inv-loop μ-loop
 returns c =

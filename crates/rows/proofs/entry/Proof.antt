@@ -1,8 +1,8 @@
 -- `rows::entry` meets its contract. Assumes nothing.
 use borrow.Author.Needs.{needs}
 use native.Mathlib.Omega.{arith}
+use Rattle.laws.proofs.Signed.{lower-fits, lower-small, lowered}
 use Rattle.rows.specs.Reading.{byteAt}
-use Rattle.rows.proofs.Packing.{lower-fits, lower-small, lowered}
 use Rattle.rows.proofs.entry.Statement.{statement}
 use Rattle.rows.proofs.entry.Tie as tie
 

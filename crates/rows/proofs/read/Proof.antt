@@ -7,7 +7,7 @@ use mir.Syntax.{w8}
 use mir.Val.{toZ, ofZ}
 use mir.Facts.{toZ-ofZ}
 use Rattle.table.specs.Tables.{unitOf, twosOf}
-use Rattle.rows.proofs.Packing.{row-entry}
+use Rattle.rows.proofs.Entries.{row-entry}
 use Rattle.rows.proofs.read.Statement.{statement}
 use Rattle.rows.proofs.read.Tie as tie
 

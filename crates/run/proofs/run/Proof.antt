@@ -48,10 +48,10 @@ few n =
     let (a, b) = entries-some (pair (n .before .before .before .before)) in
     (omega (arith, count-is n), omega (arith, count-is n))
 
-sifted : (f : tie.After-first-bad) → let a = start (f .before .before .before .before .before .before) .args in Sifted (entries (a .set .largest)) (a .tape .now) (f .first-bad .result)
+sifted : (f : tie.After-first-bad) → let a = start (f .before .before .before .before .before .before) .args in Sifted (Good (entries (a .set .largest))) (a .tape .now) (f .first-bad .result)
 sifted f =
     let k = f .before .before .before .before .before .before in
-    subst (λ n. Sifted n (start k .args .tape .now) (f .first-bad .result)) (count-is (f .before .before)) (f .first-bad .ensures)
+    subst (λ n. Sifted (Good n) (start k .args .tape .now) (f .first-bad .result)) (count-is (f .before .before)) (f .first-bad .ensures)
 
 -- all words are good where none is bad
 good : (f : tie.After-first-bad) → let a = start (f .before .before .before .before .before .before) .args in length (a .tape .now) ≤ f .first-bad .result → (i : ℕ) → i < length (a .tape .now) → Good (entries (a .set .largest)) i (getD (a .tape .now) i 0)

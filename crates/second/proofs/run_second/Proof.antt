@@ -11,7 +11,7 @@ use Rattle.meaning.specs.Refusals.{Fails, badWidth, badSet}
 use Rattle.meaning.specs.Sets.{Pair}
 use Rattle.width.specs.Widths.{Reaches}
 use Rattle.width.proofs.Widths.{known-bits, known-wide, known-whole, known-bad, reached-largest, reached-pair, reached-none, entries-some, set-fine, width-fine}
-use Rattle.second.specs.Words.{Sifted}
+use Rattle.run.specs.Words.{Sifted}
 use Rattle.second.proofs.Refusals.{refuses, all-held, accepts}
 use borrow.Author.Needs.{needs}
 use Rattle.second.proofs.run_second.Statement.{statement}
@@ -47,10 +47,10 @@ few n =
     let (a, b) = entries-some (pair (n .before .before .before .before)) in
     (omega (arith, count-is n), omega (arith, count-is n))
 
-sifted : (f : tie.After-first-bad) → let a = start (f .before .before .before .before .before .before) .args in Sifted (2 * entries (a .set .largest)) (a .tape .now) (f .first-bad .result)
+sifted : (f : tie.After-first-bad) → let a = start (f .before .before .before .before .before .before) .args in Sifted (SecondGood (2 * entries (a .set .largest))) (a .tape .now) (f .first-bad .result)
 sifted f =
     let k = f .before .before .before .before .before .before in
-    subst (λ n. Sifted (2 * n) (start k .args .tape .now) (f .first-bad .result)) (count-is (f .before .before)) (f .first-bad .ensures)
+    subst (λ n. Sifted (SecondGood (2 * n)) (start k .args .tape .now) (f .first-bad .result)) (count-is (f .before .before)) (f .first-bad .ensures)
 
 -- all words are good where none is bad
 good : (f : tie.After-first-bad) → let a = start (f .before .before .before .before .before .before) .args in length (a .tape .now) ≤ f .first-bad .result → (i : ℕ) → i < length (a .tape .now) → SecondGood (2 * entries (a .set .largest)) i (getD (a .tape .now) i 0)

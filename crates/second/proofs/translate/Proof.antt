@@ -5,6 +5,7 @@ use Prim.Native.Nat.{_≤_}
 use native.Mathlib.Omega.{arith}
 use lib.ListN.{length, drop}
 use Rattle.meaning.specs.Digits.{entries}
+use Rattle.meaning.specs.Walks.{Good}
 use Rattle.meaning.specs.SecondChip.{translation}
 use Rattle.meaning.specs.Refusals.{Fails, badWidth, badSet}
 use Rattle.meaning.specs.Sets.{Pair}
@@ -47,10 +48,10 @@ few n =
     let (a, b) = entries-some (pair (n .before .before .before)) in
     (omega (arith, count-is n), omega (arith, count-is n))
 
-sifted : (f : tie.After-first-bad) → let a = start (f .before .before .before .before) .args in Sifted (entries (a .set .largest)) (a .tape .now) (f .first-bad .result)
+sifted : (f : tie.After-first-bad) → let a = start (f .before .before .before .before) .args in Sifted (Good (entries (a .set .largest))) (a .tape .now) (f .first-bad .result)
 sifted f =
     let k = f .before .before .before .before in
-    subst (λ n. Sifted n (start k .args .tape .now) (f .first-bad .result)) (count-is (f .before)) (f .first-bad .ensures)
+    subst (λ n. Sifted (Good n) (start k .args .tape .now) (f .first-bad .result)) (count-is (f .before)) (f .first-bad .ensures)
 
 returns : tie.Need-returns
 returns c =

@@ -18,8 +18,7 @@ returns c = let a = c .before .before .args in turned-minus (a .count) (a .word)
 returns-2 : tie.Need-returns-2
 returns-2 c =
     let s = c .before .before in
-    let (l, r) = c .before .negates .ensures .no (c .if1 .left) in
-    turned-plus (s .args .count) (s .args .word) l r (s .pre .2)
+    turned-plus (s .args .count) (s .args .word) (c .before .negates .ensures .no (c .if1 .left)) (s .pre .2)
 
 pub turned-spec : {M : Type 1} → statement M
 turned-spec = tie.close (tie.spec (λ c κs. search needs) sub-result add-result returns returns-2)

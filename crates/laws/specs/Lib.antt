@@ -1,0 +1,2 @@
+-- Words that speak of nothing of this project.
+pub mod Deciding
