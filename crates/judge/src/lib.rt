@@ -2,7 +2,7 @@
 ghost use mathlib.Core.Path.{_≡_};
 ghost use mathlib.Core.Logic.{_≢_};
 ghost use mathlib.Core.Bool.{true};
-ghost use Prim.Native.Nat.{ℕ, _+_, _*_, _^_, _≤_, _<_, max};
+ghost use Prim.Native.Nat.{ℕ, _+_, _*_, _/_, _%_, _^_, _≤_, _<_, min, max};
 ghost use lib.IntN.{pos};
 ghost use lib.ListN.{length, getD};
 ghost use Rattle.laws.specs.Deciding.{Decides};
@@ -50,15 +50,22 @@ fn lowest_eight(part: &[i8]) -> u32
     sum
 }
 
-// The digits of the eight places from place i up, as one number. Eight that stand in the string are lent by themselves: of a part with eight places
-// a compiler knows that none is looked for above it.
+// The digits of the eight places from place i up, which stand in the string, as one number. They are lent by themselves: of a part with eight places a compiler
+// knows that none is looked for above it.
+fn eight_within(digits: &[i8], i: usize) -> u32
+    requires { ⌜ (i + 8 ≤ length (now digits)) × (i + 8 < 2 ^ 64) ⌝ }
+    ensures { λ r. ⌜ Stretch (now (digits .entry)) i 8 r ⌝ }
+{
+    lowest_eight(&digits[i..i + 8])
+}
+
+// The same wherever they stand.
 fn eight(digits: &[i8], i: usize) -> u32
     requires { ⌜ i + 8 < 2 ^ 64 ⌝ }
     ensures { λ r. ⌜ Stretch (now (digits .entry)) i 8 r ⌝ }
 {
-    let end = i + 8;
-    if end <= digits.len() {
-        return lowest_eight(&digits[i..end]);
+    if i + 8 <= digits.len() {
+        return eight_within(digits, i);
     }
     if i <= digits.len() {
         return lowest_eight(&digits[i..]);
@@ -72,15 +79,40 @@ struct Turn {
     left: u32,
 }
 
+// Two parts of a number: the low one waits for the carry, and the high one for nothing. A machine then goes on to the next eight places before it has the carry to them.
+fn carried(there: u32, carry: u32) -> Turn
+    requires { ⌜ (there < 2 ^ 31) × (carry ≤ 512) ⌝ }
+    ensures { λ r. ⌜ r ≡ record { carry = (there + carry) / 256; left = (there + carry) % 256 } ⌝ }
+{
+    let low = there % 256 + carry;
+    Turn {
+        carry: there / 256 + low / 256,
+        left: low % 256,
+    }
+}
+
 fn step(order: u8, scalar: &[u8], digits: &[i8], q: usize, carry: u32) -> Turn
     requires { ⌜ (8 * q + 8 < 2 ^ 64) × (carry ≤ 512) ⌝ }
     ensures { λ r. ⌜ Turned (number (orderOf order) (now (scalar .entry))) (now (digits .entry)) q carry r ⌝ }
 {
-    let sum = eight(digits, 8 * q) - scalar::byte(order, scalar, q) + carry;
-    Turn {
-        carry: sum / 256,
-        left: sum % 256,
-    }
+    carried(eight(digits, 8 * q) - scalar::byte(order, scalar, q), carry)
+}
+
+// The same where the eight places stand in the string.
+fn step_within(order: u8, scalar: &[u8], digits: &[i8], q: usize, carry: u32) -> Turn
+    requires { ⌜ (8 * q + 8 ≤ length (now digits)) × (8 * q + 8 < 2 ^ 64) × (carry ≤ 512) ⌝ }
+    ensures { λ r. ⌜ Turned (number (orderOf order) (now (scalar .entry))) (now (digits .entry)) q carry r ⌝ }
+{
+    carried(
+        eight_within(digits, 8 * q) - scalar::byte(order, scalar, q),
+        carry,
+    )
+}
+
+fn smaller(a: usize, b: usize) -> usize
+    ensures { λ r. ⌜ r ≡ min a b ⌝ }
+{
+    if a < b { a } else { b }
 }
 
 fn larger(a: usize, b: usize) -> usize
@@ -90,14 +122,24 @@ fn larger(a: usize, b: usize) -> usize
 }
 
 // Whether the string is worth the scalar. They are compared from the lowest places up, to the last place of either: nothing may be left
-// at any eight places, and nothing carried past the top. So no number on the way outgrows a word, and none is cut down to one.
+// at any eight places, and nothing carried past the top. So no number on the way outgrows a word, and none is cut down to one. As far as both
+// reach, nothing is asked about their ends.
 fn worth_is(order: u8, scalar: &[u8], digits: &[i8]) -> bool
     requires { ⌜ (length (now scalar) ≤ mostBytes) × (length (now digits) ≤ mostPlaces) ⌝ }
     ensures { λ r. ⌜ Decides r (worth (now (digits .entry)) ≡ pos (number (orderOf order) (now (scalar .entry)))) ⌝ }
 {
     let end = larger((digits.len() + 7) / 8, scalar.len());
+    let both = smaller(digits.len() / 8, scalar.len());
     let mut carry = LEVEL;
     let mut q = 0;
+    while q < both {
+        let turn = step_within(order, scalar, digits, q, carry);
+        if turn.left != 0 {
+            return false;
+        }
+        carry = turn.carry;
+        q += 1;
+    }
     while q < end {
         let turn = step(order, scalar, digits, q, carry);
         if turn.left != 0 {

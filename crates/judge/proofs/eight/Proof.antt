@@ -1,23 +1,16 @@
 -- `judge::eight` meets its contract, by where the eight places stand. Assumes nothing.
-use mathlib.Core.Path.{_≡_, subst}
-use Prim.Native.Nat.{_+_, _-_}
 use borrow.Author.Needs.{needs}
 use native.Mathlib.Omega.{arith}
-use lib.ListN.{take, drop}
 use denote.Ref.{now}
-use Rattle.judge.specs.Levels.{Stretch}
-use Rattle.judge.proofs.Levels.{stretch-part, stretch-rest, stretch-above}
+use Rattle.judge.proofs.Levels.{stretch-rest, stretch-above}
 use Rattle.judge.proofs.eight.Statement.{statement}
 use Rattle.judge.proofs.eight.Tie as tie
 
 returns : tie.Need-returns
-returns c =
-    let a = c .before .before .before .args in
-    let n : a .i + 8 - a .i ≡ 8 = omega arith in
-    stretch-part (now (a .digits)) (a .i) _ (subst (λ k. Stretch (take k (drop (a .i) (now (a .digits)))) 0 8 (c .lowest-eight .result)) n (c .lowest-eight .ensures))
+returns c = c .eight-within .ensures
 
 returns-2 : tie.Need-returns-2
-returns-2 c = let a = c .before .before .before .before .args in stretch-rest (now (a .digits)) (a .i) _ (c .lowest-eight2 .ensures)
+returns-2 c = let a = c .before .before .before .before .args in stretch-rest (now (a .digits)) (a .i) _ (c .lowest-eight .ensures)
 
 returns-3 : tie.Need-returns-3
 returns-3 c = let a = c .before .before .args in stretch-above (now (a .digits)) (a .i) (omega arith)
@@ -25,5 +18,5 @@ returns-3 c = let a = c .before .before .args in stretch-above (now (a .digits))
 pub eight-spec : {M : Type 1} → statement M
 eight-spec =
     tie.close
-    (tie.spec (λ c. search needs) (λ c. search needs) (λ c. search needs) (λ c. search needs) (λ c κs. search needs) returns (λ c. search needs) (λ c. search needs)
-    (λ c. search needs) (λ c κs. search needs) returns-2 (λ c. search needs) returns-3)
+    (tie.spec (λ c. search needs) (λ c κs. search needs) returns (λ c. search needs) (λ c. search needs) (λ c. search needs) (λ c κs. search needs) returns-2 (λ c. search needs)
+    returns-3)
