@@ -255,11 +255,8 @@ fn refused(number: u8, place: u16) -> Tally
 pub fn check(set: DigitSet, order: Order, scalar: &[u8], digits: &[i8]) -> Tally
     ensures { λ r. ⌜ Check (checkRules (set .width) (set .largest) (ordered order) (now (scalar .entry)) (now (digits .entry))) (now (digits .entry)) (told r) ⌝ }
 {
-    let Known::As(whole) = Width::known(set.width) else {
-        return refused(2, 0);
-    };
-    let Known::As(known) = whole.reaching(set.largest) else {
-        return refused(22, 0);
+    let Known::As(known) = set.known() else {
+        return refused(set.fault(), 0);
     };
     if MOST_BYTES < scalar.len() {
         return refused(3, 0);

@@ -133,11 +133,8 @@ pub fn run_powers(
 ) -> Ran
     ensures { λ r. ⌜ Promise (set .width) (set .largest) (now (tape .entry)) modulus base inverse (now (powers .entry)) (now (inverses .entry)) r (now (powers .exit)) (now (inverses .exit)) ⌝ }
 {
-    let Known::As(whole) = Width::known(set.width) else {
-        return run::refused(2, 0);
-    };
-    let Known::As(known) = whole.reaching(set.largest) else {
-        return run::refused(22, 0);
+    let Known::As(known) = set.known() else {
+        return run::refused(set.fault(), 0);
     };
     if modulus == 0 {
         return run::refused(12, 0);

@@ -212,11 +212,8 @@ pub fn refused(number: u8, place: u16) -> Ran
 pub fn run(set: DigitSet, tape: &[u16], modulus: u32, base: u32, multiples: &mut [u32]) -> Ran
     ensures { λ r. ⌜ Promise (set .width) (set .largest) (now (tape .entry)) modulus base (now (multiples .entry)) r (now (multiples .exit)) ⌝ }
 {
-    let Known::As(whole) = Width::known(set.width) else {
-        return refused(2, 0);
-    };
-    let Known::As(known) = whole.reaching(set.largest) else {
-        return refused(22, 0);
+    let Known::As(known) = set.known() else {
+        return refused(set.fault(), 0);
     };
     if modulus == 0 {
         return refused(12, 0);

@@ -77,11 +77,8 @@ fn refused(number: u8, place: u16) -> Translated
 pub fn translate(set: DigitSet, tape: &[u16], words: &mut [u16]) -> Translated
     ensures { λ r. ⌜ Translate (set .width) (set .largest) (now (tape .entry)) (now (words .entry)) (translated r) (now (words .exit)) ⌝ }
 {
-    let Known::As(whole) = Width::known(set.width) else {
-        return refused(2, 0);
-    };
-    let Known::As(known) = whole.reaching(set.largest) else {
-        return refused(22, 0);
+    let Known::As(known) = set.known() else {
+        return refused(set.fault(), 0);
     };
     if Width::MOST_WORDS < tape.len() {
         return refused(13, 0);
@@ -154,11 +151,8 @@ pub fn run_second(
 ) -> Ran
     ensures { λ r. ⌜ Promise (set .width) (set .largest) (now (tape .entry)) modulus base (now (multiples .entry)) r (now (multiples .exit)) ⌝ }
 {
-    let Known::As(whole) = Width::known(set.width) else {
-        return run::refused(2, 0);
-    };
-    let Known::As(known) = whole.reaching(set.largest) else {
-        return run::refused(22, 0);
+    let Known::As(known) = set.known() else {
+        return run::refused(set.fault(), 0);
     };
     if modulus == 0 {
         return run::refused(12, 0);

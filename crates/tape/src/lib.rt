@@ -213,11 +213,8 @@ fn refused(number: u8, place: u16) -> Taped
 pub fn tape(set: DigitSet, digits: &[i8], words: &mut [u16]) -> Taped
     ensures { λ r. ⌜ Tape (set .width) (set .largest) (now (digits .entry)) (now (words .entry)) (taped r) (now (words .exit)) ⌝ }
 {
-    let Known::As(whole) = Width::known(set.width) else {
-        return refused(2, 0);
-    };
-    let Known::As(known) = whole.reaching(set.largest) else {
-        return refused(22, 0);
+    let Known::As(known) = set.known() else {
+        return refused(set.fault(), 0);
     };
     if Width::MOST_PLACES < digits.len() {
         return refused(7, 0);

@@ -3,6 +3,7 @@
 use mathlib.Core.Path.{_≡_, refl, sym, ap, subst, _∙_}
 use mathlib.Core.Logic.{_≢_, _⊎_, inl, inr, ⊎-elim}
 use mathlib.Core.Bool.{Bool, true, false, cond, _&&_}
+use mathlib.Core.List.{List, _++_}
 use Prim.Native.Nat.{ℕ, _+_, _*_, _-_, _/_, _%_, _^_, _≤_, _<_}
 use native.Mathlib.Omega.{arith}
 use native.Mathlib.Decide.{decLt, ℕ-discrete}
@@ -14,11 +15,12 @@ use Rattle.laws.proofs.Shifts.{doubled}
 use Rattle.laws.proofs.Powers.{pow-pred}
 use Rattle.meaning.specs.Digits.{leastWidth, mostWidth, largest, entries}
 use Rattle.meaning.specs.Sets.{Pair}
-use Rattle.meaning.specs.Refusals.{Fails, badWidth, badSet}
+use Rattle.meaning.specs.Refusals.{Rule, Fails, badWidth, badSet, setRules}
+use Rattle.forms.proofs.Refusals.{Until, numberAt}
 use Rattle.width.specs.declared.Width.{Width}
 use Rattle.width.specs.declared.Known.{Known}
 use Rattle.width.specs.declared.Known.the-variants.{As, Nothing}
-use Rattle.width.specs.Widths.{Wide, Whole, knownOf, Reaches}
+use Rattle.width.specs.Widths.{Wide, Whole, knownOf, Reaches, faultOf}
 
 -- ---- a byte that is a width, or none
 -- the two tests behind each answer
@@ -61,6 +63,23 @@ module _ {k : Known} (byte : ℕ) (is : k ≡ knownOf byte) where
       sides : (leb leastWidth byte ≡ false) ⊎ (leb byte mostWidth ≡ false) → (byte < leastWidth) ⊎ (mostWidth < byte)
       sides (inl f) = inl (leb-false leastWidth byte f)
       sides (inr f) = inr (leb-false byte mostWidth f)
+
+  -- and the number that a byte and a digit that make no set are refused for
+  pub known-fault : {x : Width} → k ≡ As x → 22 ≡ faultOf byte
+  unfolding faultOf
+  known-fault e = simp (found e .0, found e .1)
+
+  pub none-fault : k ≡ Nothing → 2 ≡ faultOf byte
+  unfolding knownOf faultOf
+  none-fault e = go (none-false (leb leastWidth byte) (leb byte mostWidth) _ (sym is ∙ e))
+    where
+      last : (p : Bool) → leb byte mostWidth ≡ false → _≡_ {A = ℕ} 2 (cond (p && leb byte mostWidth) 22 2)
+      last true f = simp f
+      last false f = refl
+
+      go : (leb leastWidth byte ≡ false) ⊎ (leb byte mostWidth ≡ false) → 2 ≡ faultOf byte
+      go (inl f) = simp f
+      go (inr f) = last (leb leastWidth byte) f
 
 -- ---- the tests of `known`, one after the other
 -- a byte under the smallest width
@@ -152,6 +171,17 @@ pair-wide p = (p .between .wide, p .most)
 pub set-fine : {w m : ℕ} → Pair w m → Fails (badWidth w) × Fails (badSet w m)
 set-fine p = (width-fine (pair-wide p), λ n. n p)
 
+-- what is none is, for its fault: where the rules of a call begin with those of a set, the one at index 0 or 1 is the first that applies
+pub set-refused : (rules : List Rule) {more : List Rule} {w m r : ℕ} {k : Known} → rules ≡ setRules w m ++ more → Reaches w m k → k ≡ Nothing → r ≡ faultOf w
+    → (i : ℕ) × (r ≡ numberAt rules i) × Until rules i 0
+unfolding faultOf
+set-refused rules {more} {w} {m} {r} begin is e fault = rw begin (go (leb leastWidth w) (leb w mostWidth) refl refl fault)
+  where
+    go : (p q : Bool) → leb leastWidth w ≡ p → leb w mostWidth ≡ q → r ≡ cond (p && q) 22 2 → (i : ℕ) × (r ≡ numberAt (setRules w m ++ more) i) × Until (setRules w m ++ more) i 0
+    go true true a b f = (1, f, (width-fine (leb-true leastWidth w a, leb-true w mostWidth b), (reached-none w m is e, refl)))
+    go true false a b f = (0, f, (inr (leb-false w mostWidth b), refl))
+    go false q a b f = (0, f, (inl (leb-false leastWidth w a), refl))
+
 -- and what is not refused is one
 pub pair-of : (w m : ℕ) → Fails (badSet w m) → Pair w m
 pair-of w m n =
@@ -171,6 +201,11 @@ pair-of w m n =
     odd (no f) = absurd (n (λ p. f (p .between .odd)))
 
 -- ---- the tests of `reaching`
+-- a byte that is no width has no set
+pub outside-none : {w : ℕ} (m : ℕ) → (w < leastWidth) ⊎ (mostWidth < w) → Reaches w m Nothing
+unfolding Reaches
+outside-none m h p = width-fine (pair-wide p) h
+
 module _ (w m l : ℕ) (wide : Wide w) (is : l ≡ largest w) where
   full : 2 ^ w ≡ 2 * 2 ^ (w - 1)
   full = pow-pred w (omega arith)

@@ -41,3 +41,7 @@ knownOf byte = cond (leb leastWidth byte && leb byte mostWidth) (As (record { bi
 unfoldable pub Reaches : (w m : ℕ) → Known → Type 0
 Reaches w m (As x) = (x .bits ≡ w) × (x .largest ≡ m) × Pair w m
 Reaches w m Nothing = Pair w m → ⊥
+
+-- the number that two bytes are refused for, where they make no set: 22 for the largest digit where the first is a width, else 2
+unfoldable pub faultOf : ℕ → ℕ
+faultOf w = cond (leb leastWidth w && leb w mostWidth) 22 2

@@ -5,7 +5,7 @@ ghost use Prim.Native.Nat.{_+_, _*_, _≤_, max};
 ghost use Rattle.meaning.specs.Digits.{leastWidth, mostWidth, mostPlaces, inSet, entries};
 ghost use Rattle.meaning.specs.Words.{mostWords};
 ghost use Rattle.meaning.specs.Windows.{tableStart};
-ghost use Rattle.width.specs.Widths.{Wide, Whole, Limits, knownOf, Reaches, Entire};
+ghost use Rattle.width.specs.Widths.{Wide, Whole, Limits, knownOf, Reaches, faultOf, Entire};
 
 // How many bits a digit has, its sign included, and the largest digit. The spacing of digits and the windows go by the bits, the digit set and the entries by the largest digit.
 pub struct Width {
@@ -31,6 +31,26 @@ impl DigitSet {
         DigitSet {
             width,
             largest: known.largest,
+        }
+    }
+
+    // The width of the set, where the two bytes make one.
+    pub fn known(self) -> Known
+        ensures { λ r. ⌜ Reaches (self .width) (self .largest) r ⌝ }
+    {
+        let Known::As(whole) = Width::known(self.width) else {
+            return Known::Nothing;
+        };
+        whole.reaching(self.largest)
+    }
+
+    // What a set that is none is refused for: its width, or its largest digit.
+    pub fn fault(self) -> u8
+        ensures { λ r. ⌜ r ≡ faultOf (self .width) ⌝ }
+    {
+        match Width::known(self.width) {
+            Known::As(_) => 22,
+            Known::Nothing => 2,
         }
     }
 }

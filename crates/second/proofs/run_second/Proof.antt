@@ -6,11 +6,10 @@ use native.Mathlib.Omega.{arith}
 use lib.ListN.{length, getD, drop}
 use Rattle.meaning.specs.Digits.{entries}
 use Rattle.meaning.specs.Multiples.{costOf}
-use Rattle.meaning.specs.SecondChip.{SecondGood, secondMultiplesOf}
+use Rattle.meaning.specs.SecondChip.{SecondGood, secondRules, secondMultiplesOf}
 use Rattle.meaning.specs.Refusals.{Fails, badWidth, badSet}
 use Rattle.meaning.specs.Sets.{Pair}
-use Rattle.width.specs.Widths.{Reaches}
-use Rattle.width.proofs.Widths.{known-bits, known-wide, known-whole, known-bad, reached-largest, reached-pair, reached-none, entries-some, set-fine, width-fine}
+use Rattle.width.proofs.Widths.{reached-largest, reached-pair, entries-some, set-fine, set-refused}
 use Rattle.run.specs.Words.{Sifted}
 use Rattle.second.proofs.Refusals.{refuses, all-held, accepts}
 use borrow.Author.Needs.{needs}
@@ -18,29 +17,18 @@ use Rattle.second.proofs.run_second.Statement.{statement}
 use Rattle.second.proofs.run_second.Tie as tie
 
 -- ---- the set: what the function was called with, and that the two bytes make one
-abbrev called : tie.After-reaching → tie.Start
-called r = r .before .before .before .before .before .before .before
-
-reaches : (r : tie.After-reaching) → let s = called r .args .set in Reaches (s .width) (s .largest) (r .reaching .result)
-reaches r =
-    let w = r .before .before in
-    rw (known-bits _ (w .before .before .known .ensures) (w .whole .given .1)) at (r .reaching .ensures)
-
-reaching-requires : tie.Need-reaching-requires
-reaching-requires c κs = let w = c .before in known-whole _ (w .before .before .known .ensures) (w .whole .given .1)
-
 abbrev start : tie.After-known2 → tie.Start
-start k = called (k .before .before)
+start k = k .before .before .before .before .before
 
 pair : (k : tie.After-known2) → let s = start k .args .set in Pair (s .width) (s .largest)
-pair k = reached-pair _ _ (reaches (k .before .before)) (k .known2 .given .1)
+pair k = reached-pair _ _ (k .before .before .known .ensures) (k .known2 .given .1)
 
 fine : (k : tie.After-known2) → let s = start k .args .set in Fails (badWidth (s .width)) × Fails (badSet (s .width) (s .largest))
 fine k = set-fine (pair k)
 
 -- what the calls found, at the set itself: how many multiples there are, the words judged, the entries stored
 count-is : (n : tie.After-entries) → n .entries .result ≡ entries (start (n .before .before .before .before) .args .set .largest)
-count-is n = let k = n .before .before .before .before in n .entries .ensures ∙ ap entries (reached-largest _ _ (reaches (k .before .before)) (k .known2 .given .1))
+count-is n = let k = n .before .before .before .before in n .entries .ensures ∙ ap entries (reached-largest _ _ (k .before .before .known .ensures) (k .known2 .given .1))
 
 few : (n : tie.After-entries) → (1 ≤ n .entries .result) × (n .entries .result ≤ 64)
 few n =
@@ -65,52 +53,46 @@ stored-are t =
 
 returns : tie.Need-returns
 returns c =
-    let k = c .before .before .before in
+    let t = c .before .before in
+    let k = t .before .before in
     let a = k .before .before .before .args in
-    refuses (a .set .width) (a .set .largest) (a .tape .now) (a .modulus) (a .base) (a .multiples .now) 0 0 (c .refused .ensures) (known-bad _ (k .known .ensures) (c .before .enum-told .given .1), refl)
+    let (i, e, u) = set-refused (secondRules (a .set .width) (a .set .largest) (a .tape .now) (a .modulus) (length (a .multiples .now))) refl (k .known .ensures) (t .enum-told .given .1) (c .before .fault .ensures) in
+    refuses (a .set .width) (a .set .largest) (a .tape .now) (a .modulus) (a .base) (a .multiples .now) i 0 (rw e at (c .refused .ensures)) u
 
 returns-2 : tie.Need-returns-2
 returns-2 c =
-    let r = c .before .before .before in
-    let w = r .before .before in
-    let a = called r .args in
-    refuses (a .set .width) (a .set .largest) (a .tape .now) (a .modulus) (a .base) (a .multiples .now) 1 0 (c .refused2 .ensures)
-    (width-fine (known-wide _ (w .before .before .known .ensures) (w .whole .given .1)), (reached-none _ _ (reaches r) (c .before .enum-told2 .given .1), refl))
+    let k = c .before .before .before in
+    let a = start k .args in
+    refuses (a .set .width) (a .set .largest) (a .tape .now) (a .modulus) (a .base) (a .multiples .now) 2 0 (c .refused2 .ensures) (fine k .0, (fine k .1, (c .before .if1 .taken, refl)))
 
 returns-3 : tie.Need-returns-3
 returns-3 c =
-    let k = c .before .before .before in
-    let a = start k .args in
-    refuses (a .set .width) (a .set .largest) (a .tape .now) (a .modulus) (a .base) (a .multiples .now) 2 0 (c .refused3 .ensures) (fine k .0, (fine k .1, (c .before .if1 .taken, refl)))
-
-returns-4 : tie.Need-returns-4
-returns-4 c =
     let k = c .before .before .before .before in
     let a = start k .args in
-    refuses (a .set .width) (a .set .largest) (a .tape .now) (a .modulus) (a .base) (a .multiples .now) 3 0 (c .refused4 .ensures) (fine k .0, (fine k .1, (c .before .before .if1 .left, (c .before .if2 .taken, refl))))
+    refuses (a .set .width) (a .set .largest) (a .tape .now) (a .modulus) (a .base) (a .multiples .now) 3 0 (c .refused3 .ensures) (fine k .0, (fine k .1, (c .before .before .if1 .left, (c .before .if2 .taken, refl))))
 
 mul-all : tie.Need-mul-all
 mul-all c = omega (arith, few c)
 
-returns-5 : tie.Need-returns-5
-returns-5 c =
+returns-4 : tie.Need-returns-4
+returns-4 c =
     let n = c .before .before in
     let k = n .before .before .before .before in
     let a = start k .args in
-    refuses (a .set .width) (a .set .largest) (a .tape .now) (a .modulus) (a .base) (a .multiples .now) 4 0 (c .refused5 .ensures)
+    refuses (a .set .width) (a .set .largest) (a .tape .now) (a .modulus) (a .base) (a .multiples .now) 4 0 (c .refused4 .ensures)
     (fine k .0, (fine k .1, (n .before .before .if1 .left, ((λ l. omega (arith, n .before .if2 .left)), (omega (arith, count-is n, c .before .if3 .taken), refl)))))
 
 first-bad-requires : tie.Need-first-bad-requires
 first-bad-requires c κs = omega (arith, few (c .before))
 
-returns-6 : tie.Need-returns-6
-returns-6 c =
+returns-5 : tie.Need-returns-5
+returns-5 c =
     let f = c .before .before in
     let n = f .before .before in
     let k = n .before .before .before .before in
     let a = start k .args in
     let h = c .before .if4 .taken in
-    refuses (a .set .width) (a .set .largest) (a .tape .now) (a .modulus) (a .base) (a .multiples .now) 5 (f .first-bad .result) (c .refused6 .ensures)
+    refuses (a .set .width) (a .set .largest) (a .tape .now) (a .modulus) (a .base) (a .multiples .now) 5 (f .first-bad .result) (c .refused5 .ensures)
     (fine k .0, (fine k .1, (n .before .before .if1 .left, ((λ l. omega (arith, n .before .if2 .left)), ((λ l. omega (arith, count-is n, f .before .if3 .left)), (record { within = h; bad = sifted f .here h }, λ q l b. b .bad (sifted f .before q l)))))))
 
 store-requires : tie.Need-store-requires
@@ -133,8 +115,8 @@ reach-requires c κs =
 cost-of-requires : tie.Need-cost-of-requires
 cost-of-requires c κs = few (c .before .before .before .before .before .before .before .before .before) .1
 
-returns-7 : tie.Need-returns-7
-returns-7 c =
+returns-6 : tie.Need-returns-6
+returns-6 c =
     let r = c .before in
     let t = r .before .before .before .before in
     let f = t .before .before .before in
@@ -149,6 +131,6 @@ returns-7 c =
 pub run-second-spec : {M : Type 1} → statement M
 run-second-spec =
     tie.close
-    (tie.spec (λ c κs. search needs) (λ c. search needs) (λ c. search needs) (λ c κs. search needs) returns reaching-requires (λ c. search needs) (λ c. search needs) (λ c κs. search needs) returns-2 (λ c κs. search needs) returns-3 (λ c κs. search needs)
-    returns-4 (λ c κs. search needs) mul-all (λ c κs. search needs) returns-5 first-bad-requires (λ c. search needs) (λ c κs. search needs) returns-6 store-requires
-    reach-requires cost-of-requires (λ c. search needs) returns-7)
+    (tie.spec (λ c κs. search needs) (λ c. search needs) (λ c. search needs) (λ c κs. search needs) (λ c κs. search needs) returns (λ c κs. search needs) returns-2 (λ c κs. search needs)
+    returns-3 (λ c κs. search needs) mul-all (λ c κs. search needs) returns-4 first-bad-requires (λ c. search needs) (λ c κs. search needs) returns-5 store-requires reach-requires
+    cost-of-requires (λ c. search needs) returns-6)
