@@ -1,24 +1,24 @@
 // The answer to a line: its bytes are read, the call that they name is made, and what it answers is printed.
-use crate::bounding;
-use crate::checking;
-use crate::choosing;
-use crate::framing;
-use crate::joining;
-use crate::jointly;
-use crate::parsing;
-use crate::powering;
-use crate::print;
-use crate::reading;
-use crate::recoding;
-use crate::running;
-use crate::searching;
-use crate::taping;
-use crate::translating;
-use crate::weighing;
+use asking::print;
 use scalar::Order;
+use strings::bounding;
+use strings::checking;
+use strings::choosing;
+use strings::framing;
+use strings::parsing;
+use strings::reading;
+use strings::recoding;
+use strings::searching;
+use strings::weighing;
+use tapes::joining;
+use tapes::jointly;
+use tapes::powering;
+use tapes::running;
+use tapes::taping;
+use tapes::translating;
 ghost use Prim.Native.Nat.{_≤_};
 ghost use lib.ListN.{length};
-ghost use Rattle.trial.specs.Room.{mostAnswer, Answered};
+ghost use Rattle.asking.specs.Room.{mostAnswer, Answered};
 
 // What a line that is no frame is answered.
 const NO_FRAME: u64 = 0xFF;

@@ -5,7 +5,8 @@ use libc::STDIN_FILENO;
 use libc::STDOUT_FILENO;
 ghost use Prim.Native.Nat.{_≤_};
 ghost use lib.ListN.{length};
-ghost use Rattle.trial.specs.Room.{mostAnswer, Moved};
+ghost use Rattle.asking.specs.Room.{mostAnswer};
+ghost use Rattle.trial.specs.Steps.{Moved};
 
 // How many characters of a line are kept after a read, and whether there is more to read.
 struct Fed {

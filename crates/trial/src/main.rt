@@ -1,25 +1,10 @@
 // The trial program: makes every public call from a line of hexadecimal, and answers with every field and every lent buffer whole.
 // Here is the memory that lines and answers stand in.
 mod answers;
-mod asked;
-mod bounding;
-mod checking;
-mod choosing;
-mod framing;
 mod input;
-mod joining;
-mod jointly;
-mod lent;
-mod parsing;
-mod powering;
-mod print;
-mod reading;
-mod recoding;
-mod running;
-mod searching;
-mod taping;
-mod translating;
-mod weighing;
+
+use asking::asked;
+use asking::print;
 
 // Of a line one character more is kept than the longest frame has: a longer line is no frame as well.
 fn main() {

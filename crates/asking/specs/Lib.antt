@@ -1,0 +1,2 @@
+-- What the contracts of the calls' answers say.
+pub mod Room
