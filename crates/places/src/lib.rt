@@ -37,7 +37,8 @@ pub fn put(digits: &mut [i8], marks: &mut [u64], place: usize, digit: i8)
     ensures { λ _. ⌜ now (digits .exit) ≡ set (now (digits .entry)) place digit ⌝ }
     ensures { λ _. ⌜ now (marks .exit) ≡ marksOf (now (digits .exit)) ⌝ }
 {
-    let q = place / marks::PLACES;
+    // In 32 bits the word's address is found by one step less.
+    let q = ((place as u32) / (marks::PLACES as u32)) as usize;
     marks[q] += 1u64 << (place % marks::PLACES);
     digits[place] = digit;
 }

@@ -49,4 +49,4 @@ returns c =
     rw (toZ-ofZ (s .fits .digit)) (refl, rw (s .pre .1 .1 .0) (marks-put d (a .place) (a .digit) (omega arith) (omega arith) _ (rw (s .pre .1 .1 .0) at (new s))))
 
 pub put-spec : {M : Type 1} → statement M
-put-spec = tie.close (tie.spec (λ c. search needs) (λ c. search needs) slice-read-marks add-marks slice-write-marks (λ c. search needs) (λ c. search needs) (λ c. search needs) returns)
+put-spec = tie.close (tie.spec (λ c. search needs) (λ c. search needs) (λ c. search needs) (λ c. search needs) (λ c. search needs) (λ c. search needs) slice-read-marks add-marks slice-write-marks (λ c. search needs) (λ c. search needs) (λ c. search needs) returns)
