@@ -97,12 +97,16 @@ fn turns(w: u32, bits: u32, turn: u32) -> bool
     windows::opening::opens(w, bits) && bits >> w == turn
 }
 
-// Where the descent halts: over the window of the tie, w places above the lowest set bit, where it opens and leads with `turn`; else at the end.
+// Where the descent halts: over the window of the tie, w places above the lowest set bit, where it opens and leads with `turn`; else at the end. No window leads with
+// what is no bit, which wMOF asks for.
 fn halt(w: u32, turn: u32, order: u8, s: &[u8]) -> usize
     requires { ⌜ Wide w ⌝ }
     requires { ⌜ length (now s) ≤ mostBytes ⌝ }
     ensures { λ r. ⌜ Halts turn w (number (orderOf order) (now (s .entry))) (trailingZeros (bitCount (now (s .entry))) (number (orderOf order) (now (s .entry)))) r ⌝ }
 {
+    if 1 < turn {
+        return 0;
+    }
     let tie = scalar::lowest(order, s) + (w as usize);
     let bits = scalar::window(order, s, tie, w);
     if turns(w, bits, turn) { tie + 1 } else { 0 }
