@@ -1,13 +1,12 @@
 -- What is kept of a line: of a new one nothing, and of one that goes on as many characters more as there is room for; and what a cut keeps. Assumes nothing.
+use mathlib.Core.Logic.{◌≢◌}
 use mathlib.Core.Path.{◌≡◌, sym, ap, ◌∙◌}
 use mathlib.Core.List.{List, [], ◌∷◌, ◌++◌, append-nil}
 use Prim.Native.Nat.{ℕ, ◌+◌, ◌-◌, ◌<◌, ◌≤◌, min}
 use native.Mathlib.Omega.{arith}
 use native.Mathlib.Decide.{dec_le}
-use lib.ListN.{length, take, drop, length-take, length-append}
-use lib.Seq.{take_all, take-nil, take-append-le, take-append-add, length-take-le, take-length, take_at}
-use Rattle.laws.proofs.Parts.{part_back, part_front}
-use Rattle.bytes.specs.Bytes.{index_of}
+use lib.ListN.{length, get_or, take, length-take, length-append}
+use lib.Seq.{take_all, take-nil, take-append-le, take-append-add}
 use Rattle.meaning.specs.Lines.{line_feed}
 use Rattle.cutter.specs.Cuts.{ended, begun, Keeps, Open, Closed}
 use Rattle.cutter.proofs.Pieces.{plain, plain_ended, plain_begun, feed_ended, feed_begun, before_plain, through_feed}
@@ -35,23 +34,9 @@ take_most n a = go (dec_le (length a) n)
 pub keeps_none : (line : List ℕ) → Keeps [] line 0
 keeps_none line = record { count_is = sym (ap length (take-nil (length line))); front_is = sym (take-nil (length line)) }
 
--- the first elements of a copy
-copy_first : (count : ℕ) (characters rest : List ℕ) → count ≤ length characters → take count (take (length (take count characters)) (take count characters) ++ rest) ≡ take count characters
-copy_first count characters rest h =
-    ap (λ l. take count (l ++ rest)) (take-length (take count characters)) ∙ take_at (take count characters) rest count (length-take-le count characters h)
-
--- as many characters as there is room for are copied to the part of the line that is not filled
-module _ (characters line : List ℕ) (kept count : ℕ) (more rest : List ℕ) (within : kept ≤ length line) (few : count ≡ min (length characters) (length line - kept))
-    (copied : more ≡ take (length (take count characters)) (take count characters) ++ rest) where
-  abbrev copy : List ℕ
-  copy = take kept line ++ (more ++ drop (length line - kept) (drop kept line))
-
-  copy_front : take (kept + count) copy ≡ take kept line ++ take count characters
-  copy_front =
-      ap (take (kept + count)) (part_back line kept more)
-      ∙ part_front line kept within more count
-      ∙ ap (λ l. take kept line ++ l) (ap (take count) copied ∙ copy_first count characters rest (omega arith))
-
+-- as many characters as there is room for stand behind those that were kept
+module _ (characters line : List ℕ) (kept count : ℕ) (copy : List ℕ) (few : count ≡ min (length characters) (length line - kept))
+    (copied : take (kept + count) copy ≡ take kept line ++ take count characters) where
   pub keeps_more : length copy ≡ length line → (p : List ℕ) → Keeps p line kept → Keeps (p ++ characters) copy (kept + count)
   keeps_more same p k =
       let room : length line - length p ≡ length line - kept = omega (arith, k.count_is, length-take (length line) p) in
@@ -62,13 +47,13 @@ module _ (characters line : List ℕ) (kept count : ℕ) (more rest : List ℕ) 
       ∙ ap (λ l. take kept line ++ l) (sym (take_most (length line - kept) characters) ∙ ap (λ n. take n characters) (sym few)) in
       record {
         count_is = omega (arith, same, k.count_is, length-take (length line) p, length-take (length copy) (p ++ characters), length-append p characters);
-        front_is = copy_front ∙ sym all ∙ ap (λ n. take n (p ++ characters)) (sym same);
+        front_is = copied ∙ sym all ∙ ap (λ n. take n (p ++ characters)) (sym same);
       }
 
 -- ---- a piece up to the end that was found, where that much of it is kept
-module _ (piece : List ℕ) {end : ℕ} (found : end ≡ index_of line_feed piece) where
+module _ (piece : List ℕ) {end : ℕ} (before : (k : ℕ) → k < end → get_or piece k 0 ≢ line_feed) where
   stretch : plain (take end piece)
-  stretch = rw found (before_plain piece)
+  stretch = before_plain piece end before
 
   module _ (p : List ℕ) {line : List ℕ} {kept : ℕ} (k : Keeps (p ++ take end piece) line kept) where
     -- where it is all of the piece
@@ -76,9 +61,9 @@ module _ (piece : List ℕ) {end : ℕ} (found : end ≡ index_of line_feed piec
     cut_open = record { none = plain_ended p (take end piece) stretch; keeps = rw (plain_begun p (take end piece) stretch) k }
 
     -- where a line feed comes after it
-    pub cut_closed : end < length piece → Closed p (take (end + 1) piece) line kept
-    cut_closed h =
-        let text : take (end + 1) piece ≡ take end piece ++ (line_feed ∷ []) = rw found (through_feed piece (omega arith)) in
+    pub cut_closed : end < length piece → get_or piece end 0 ≡ line_feed → Closed p (take (end + 1) piece) line kept
+    cut_closed h e =
+        let text : take (end + 1) piece ≡ take end piece ++ (line_feed ∷ []) = through_feed piece end h e in
         record {
           whole = p ++ take end piece;
           one = ap (ended p) text ∙ feed_ended p (take end piece) stretch;

@@ -3,7 +3,7 @@ use mathlib.Core.Path.{◌≡◌, refl, sym, ap, ◌∙◌}
 use mathlib.Core.Logic.{◌≢◌}
 use mathlib.Core.Bool.{Bool, true, false, cond}
 use mathlib.Core.List.{List, [], ◌∷◌, ◌++◌, append-nil}
-use Prim.Native.Nat.{ℕ, ◌+◌, ◌<◌}
+use Prim.Native.Nat.{ℕ, zero, suc, ◌+◌, ◌<◌}
 use native.Mathlib.Omega.{arith}
 use native.Mathlib.Numerals.{add-one}
 use native.Mathlib.Decide.{ℕ_discrete}
@@ -11,7 +11,6 @@ use lib.Dec.{eqb}
 use lib.ListN.{length, get_or, take}
 use lib.Seq.{append_snoc, take-suc}
 use borrow.Author.Tests.{eq-eqb, ne_eqb}
-use Rattle.bytes.specs.Bytes.{index_of, index_after}
 use Rattle.meaning.specs.Lines.{line_feed, lines_of}
 use Rattle.cutter.specs.Cuts.{ended, begun, last}
 
@@ -62,29 +61,17 @@ module _ (p cs : List ℕ) (t : plain cs) where
   unfolding begun
   feed_begun = begun_append p cs (line_feed ∷ [])
 
--- ---- the first line feed of a piece
-pub before_plain : (cs : List ℕ) → plain (take (index_of line_feed cs) cs)
-unfolding index_of index_after
-before_plain [] = tt
-before_plain (c ∷ cs) = go (ℕ_discrete c line_feed) (before_plain cs)
-  where
-    go : Dec (c ≡ line_feed) → plain (take (index_of line_feed cs) cs) → plain (take (index_after (eqb c line_feed) (index_of line_feed cs)) (c ∷ cs))
-    go (yes e) t = rw (eq-eqb c line_feed e) tt
-    go (no n) t = rw (ne_eqb c line_feed n) (n, t)
+-- ---- the first line feed of a piece, or the end of one that has none
+-- what stands before it
+pub before_plain : (cs : List ℕ) (end : ℕ) → ((k : ℕ) → k < end → get_or cs k 0 ≢ line_feed) → plain (take end cs)
+before_plain [] zero n = tt
+before_plain [] (suc end) n = tt
+before_plain (c ∷ cs) zero n = tt
+before_plain (c ∷ cs) (suc end) n = (n 0 (omega arith), before_plain cs end (λ k h. n (suc k) (omega arith)))
 
-at_feed : (cs : List ℕ) → index_of line_feed cs < length cs → get_or cs (index_of line_feed cs) 0 ≡ line_feed
-unfolding index_of index_after
-at_feed [] h = absurd (omega arith)
-at_feed (c ∷ cs) h = go (ℕ_discrete c line_feed) (at_feed cs) h
-  where
-    go : Dec (c ≡ line_feed) → (index_of line_feed cs < length cs → get_or cs (index_of line_feed cs) 0 ≡ line_feed)
-        → index_after (eqb c line_feed) (index_of line_feed cs) < length (c ∷ cs) → get_or (c ∷ cs) (index_after (eqb c line_feed) (index_of line_feed cs)) 0 ≡ line_feed
-    go (yes e) f = rw (eq-eqb c line_feed e) (λ h. e)
-    go (no n) f = rw (ne_eqb c line_feed n) (λ h. f (omega arith))
-
-pub through_feed : (cs : List ℕ) → index_of line_feed cs < length cs → take (index_of line_feed cs + 1) cs ≡ take (index_of line_feed cs) cs ++ (line_feed ∷ [])
-through_feed cs h =
-    ap (λ n. take n cs) (add-one (index_of line_feed cs)) ∙ take-suc cs (index_of line_feed cs) 0 h ∙ ap (λ c. take (index_of line_feed cs) cs ++ (c ∷ [])) (at_feed cs h)
+pub through_feed : (cs : List ℕ) (end : ℕ) → end < length cs → get_or cs end 0 ≡ line_feed → take (end + 1) cs ≡ take end cs ++ (line_feed ∷ [])
+through_feed cs end h e =
+    ap (λ n. take n cs) (add-one end) ∙ take-suc cs end 0 h ∙ ap (λ c. take end cs ++ (c ∷ [])) e
 
 -- ---- the lines of a whole input
 plain_more : (p : List ℕ) (c : ℕ) → plain p → c ≢ line_feed → plain (p ++ (c ∷ []))

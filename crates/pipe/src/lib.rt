@@ -1,61 +1,73 @@
 // The programs `recode` and `sparse`, which differ in the version that they write: frames are read from standard input to its end, a line each, and the answer to
 // each is written to standard output. Answers go out in blocks, at the latest before the next read, so that whoever sends a frame and waits gets its answer.
-ghost use Rattle.std.specs.Prelude.{◌≤◌, length};
+#![tactic(auto)]
+
+ghost use Rattle.std.specs.Prelude.{◌≡◌, ◌≤◌, length, MatchResult};
 ghost use Rattle.frames.specs.Told.{version_of};
 ghost use Rattle.requests.specs.Answered.{Lent};
 ghost use Rattle.stream.specs.Streams.{least_kept};
 ghost use Rattle.pipe.specs.Pours.{Pours, Takes};
 
 use frames::Version;
-use libc::{STDIN_FILENO, STDOUT_FILENO};
 use recoder::MARK_WORDS;
+use std::io;
+use std::io::Read;
 use width::Width;
 
 // How much is kept of the line that has not ended, and whether to go on: not past the end of the input, and not past a write that failed.
-#[derive(Drop)]
+#[derive(Clone, Copy)]
 struct Turn {
     kept: usize,
     goes: bool,
 }
 
-// A fault is told on standard error, under the program's name: a program has no status of its own.
-fn tell_output(version: Version) {
-    match version {
-        Version::Plain => os::fail(b"recode: standard output"),
-        Version::Sparse => os::fail(b"sparse: standard output"),
-    }
+// The most characters that are read at once, and room for as many that are written at once.
+const BLOCK: usize = 65536;
+
+// A fault is told on standard error, under the program's name and in one line.
+fn tell_output(rt: &HostRuntime, version: Version, fault: io::Error) {
+    let _ = match version {
+        Version::Plain => eprintln!(rt; "recode: standard output: {fault}"),
+        Version::Sparse => eprintln!(rt; "sparse: standard output: {fault}"),
+    };
 }
 
-fn tell_input(version: Version) {
-    match version {
-        Version::Plain => os::fail(b"recode: standard input"),
-        Version::Sparse => os::fail(b"sparse: standard input"),
-    }
+fn tell_input(rt: &HostRuntime, version: Version, fault: io::Error) {
+    let _ = match version {
+        Version::Plain => eprintln!(rt; "recode: standard input: {fault}"),
+        Version::Sparse => eprintln!(rt; "sparse: standard input: {fault}"),
+    };
 }
 
 // Writes to standard output, and tells where that fails.
-fn written(version: Version, bytes: &[u8]) -> bool {
-    let went = io::write_all(STDOUT_FILENO, bytes);
-    if !went {
-        tell_output(version);
+fn written(rt: &HostRuntime, version: Version, bytes: &[u8]) -> bool {
+    match rt.write_all(bytes) {
+        Ok(()) => true,
+        Err(fault) => {
+            tell_output(rt, version, fault);
+            false
+        }
     }
-    went
 }
 
 // How much is kept of the last line, after a read that gave nothing. Where the read failed, that is told and is no end of the input: a line that has not
-// ended is then no line. It comes before any other call of C's, which could change errno.
-fn kept_at_end(version: Version, got: isize, kept: usize) -> usize
-    ensures { result ≤ kept }
+// ended is then no line.
+fn kept_at_end(rt: &HostRuntime, version: Version, got: io::Result<usize>, kept: usize) -> usize
+    ensures within { result ≤ kept }
+    ensures kept_or_none { MatchResult got (λ _. result ≡ kept) (λ _. result ≡ 0) }
 {
-    if got < 0 {
-        tell_input(version);
-        return 0;
+    match got {
+        Ok(_) => kept,
+        Err(fault) => {
+            tell_input(rt, version, fault);
+            0
+        }
     }
-    kept
 }
 
 // Answers the lines that end in a piece of the input. What stands in `out` goes out each time that there is no room for a whole answer more.
 fn pour(
+    rt: &HostRuntime,
     version: Version,
     piece: &[u8],
     line: &mut [u8],
@@ -77,13 +89,14 @@ fn pour(
         at += fed.used;
         kept = fed.kept;
         let filled = fed.filled;
-        goes = written(version, &out[..filled]);
+        goes = written(rt, version, &out[..filled]);
     }
     Turn { kept, goes }
 }
 
 // Reads once. At the end of the input the last line is answered.
 fn take(
+    rt: &HostRuntime,
     version: Version,
     input: &mut [u8],
     line: &mut [u8],
@@ -97,31 +110,34 @@ fn take(
     requires lent { Lent (version_of version) bytes.old digits.old marks.old out.old }
     ensures { Takes line.old kept result input.new line.new }
 {
-    let got = libc::read(STDIN_FILENO, input);
-    let count = io::count(got, input);
-    if count == 0 {
-        let ended = kept_at_end(version, got, kept);
-        let last = stream::finish(version, line, ended, bytes, digits, marks, out);
-        written(version, &out[..last]);
-        return Turn {
-            kept: 0,
-            goes: false,
-        };
+    let got = rt.stdin().read(input);
+    match got {
+        Ok(count) if count > 0 => pour(
+            rt,
+            version,
+            &input[..count],
+            line,
+            kept,
+            bytes,
+            digits,
+            marks,
+            out,
+        ),
+        _ => {
+            let ended = kept_at_end(rt, version, got, kept);
+            let last = stream::finish(version, line, ended, bytes, digits, marks, out);
+            written(rt, version, &out[..last]);
+            Turn {
+                kept: 0,
+                goes: false,
+            }
+        }
     }
-    pour(
-        version,
-        &input[..count],
-        line,
-        kept,
-        bytes,
-        digits,
-        marks,
-        out,
-    )
 }
 
-// A proved loop has to end, and nothing says that the input does: the turns are counted down from a number that no run uses up.
+// A proved loop has to end, and nothing says that the input does: the turns are counted up to a number that no run reaches.
 fn run(
+    rt: &HostRuntime,
     version: Version,
     input: &mut [u8],
     line: &mut [u8],
@@ -133,26 +149,26 @@ fn run(
     requires least_kept_in_bounds { least_kept ≤ length line.old }
     requires lent { Lent (version_of version) bytes.old digits.old marks.old out.old }
 {
-    let mut turns = u64::MAX;
     let mut kept = 0;
-    let mut goes = true;
-    while turns > 0 && goes {
-        let took = take(version, input, line, kept, bytes, digits, marks, out);
+    for _ in 0..u64::MAX {
+        let took = take(rt, version, input, line, kept, bytes, digits, marks, out);
         kept = took.kept;
-        goes = took.goes;
-        turns -= 1;
+        if !took.goes {
+            return;
+        }
     }
 }
 
 // The whole of a program.
-pub fn program(version: Version) {
-    let mut input = io::large_buffer();
+pub fn program(rt: &HostRuntime, version: Version) {
+    let mut input = [0u8; BLOCK];
     let mut line = [0u8; stream::LEAST_KEPT];
     let mut bytes = [0u8; requests::MOST_BYTES];
     let mut digits = [0i8; Width::MOST_PLACES];
     let mut marks = [0u64; MARK_WORDS];
-    let mut out = io::large_buffer();
+    let mut out = [0u8; BLOCK];
     run(
+        rt,
         version,
         &mut input,
         &mut line,

@@ -1,6 +1,8 @@
 // Reads frames from standard input, a line each, and answers each in version 1 on standard output.
+#![tactic(auto)]
+
 use frames::Version;
 
-fn main() {
-    pipe::program(Version::Plain);
+fn main(rt: HostRuntime) {
+    pipe::program(&rt, Version::Plain);
 }

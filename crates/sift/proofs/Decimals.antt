@@ -1,17 +1,10 @@
--- Numbers in decimal: what the kit's library spells with the fewest digits is the number's decimal characters. Assumes nothing.
-use mathlib.Core.Path.{◌≡◌, refl, sym, ap, subst, ◌∙◌}
-use mathlib.Core.List.{[], ◌∷◌, ◌++◌}
-use Prim.Native.Nat.{ℕ, zero, suc, ◌+◌, ◌*◌, ◌-◌, ◌/◌, ◌%◌, ◌^◌, ◌<◌, ◌≤◌}
+-- Numbers in decimal: what std prints of a number is the number's decimal characters. Assumes nothing.
+use Rattle.std.proofs.Common.{◌≡◌, refl, sym, ap, ◌∙◌, [], ◌∷◌, ◌++◌, append_assoc, append-nil, List, ℕ, zero, suc, ◌+◌, ◌/◌, ◌%◌, ◌^◌, ◌<◌, ◌≤◌, false, arith}
+use Rattle.std.specs.Fmt.{digits, digits_onto}
 use native.Mathlib.Decide.{dec_le}
-use native.Mathlib.Nat.{one-le-pow, pow-le-pow_right, pow-suc}
-use native.Mathlib.Omega.{arith}
-use borrow.Author.Tests.{lt-ltb, le-ltb}
-use Rattle.io.specs.Digits.{hex_digit_ascii, last_digits, IsDigitCount}
+use native.Mathlib.Nat.{pow-suc}
+use borrow.Author.Tests.{lt-ltb, le-ltb, eq-eqb, ne_eqb}
 use Rattle.meaning.specs.Salvage.{numeral, decimal}
-
--- the character of a digit
-glyph_is : (d : ℕ) → d < 10 → hex_digit_ascii d ≡ 48 + d
-glyph_is d h = rw (lt-ltb d 10 h)
 
 one : (fuel n : ℕ) → n < 10 → numeral fuel n ≡ (48 + n) ∷ []
 unfolding numeral
@@ -22,38 +15,35 @@ more : (fuel n : ℕ) → 10 ≤ n → numeral (suc fuel) n ≡ numeral fuel (n 
 unfolding numeral
 more fuel n h = rw (le-ltb n 10 h)
 
-pred_is : (k : ℕ) → suc (suc k) - 1 ≡ suc k
-pred_is k = omega arith
+-- a digit, and then what follows it
+digit : (k n : ℕ) (cs : List ℕ) → n < 10 → digits_onto (suc k) 10 false n cs ≡ (48 + n) ∷ cs
+digit k n cs h =
+    let none : n / 10 ≡ 0 = omega arith in
+    let same : n % 10 ≡ n = omega arith in
+    rw (eq-eqb (n / 10) 0 none, same, lt-ltb n 10 h)
 
-pred_one : (k : ℕ) → suc k - 1 ≡ k
-pred_one k = omega arith
+step : (k n : ℕ) (cs : List ℕ) → 10 ≤ n → digits_onto (suc k) 10 false n cs ≡ digits_onto k 10 false (n / 10) ((48 + n % 10) ∷ cs)
+step k n cs h =
+    let some : n / 10 ≡ 0 → ⊥ = λ e. omega arith in
+    let low : n % 10 < 10 = omega arith in
+    rw (ne_eqb (n / 10) 0 some, lt-ltb (n % 10) 10 low)
 
-spelled_in : (k fuel n : ℕ) → IsDigitCount 10 1 n k → n ≤ fuel → last_digits 10 k n ≡ numeral fuel n
-spelled_in zero fuel n (l, _, _) f = absurd (omega arith)
-spelled_in (suc zero) fuel n (l, h, _) f =
-    let e : n % 10 ≡ n = omega arith in
-    ap (λ c. c ∷ []) (glyph_is (n % 10) (omega arith) ∙ ap (λ d. 48 + d) e) ∙ sym (one fuel n (omega arith))
-spelled_in (suc (suc k)) zero n (l, h, m) f =
-    let least : 10 ^ suc k ≤ n = subst (λ j. 10 ^ j ≤ n) (pred_is k) (m (omega arith)) in
-    absurd (omega (arith, one-le-pow (suc k) 10 (omega arith)))
-spelled_in (suc (suc k)) (suc fuel) n (l, h, m) f =
-    let least : 10 ^ suc k ≤ n = subst (λ j. 10 ^ j ≤ n) (pred_is k) (m (omega arith)) in
-    let low : 10 * 10 ^ k ≤ n = omega (arith, pow-suc 10 k) in
-    let high : n < 10 * 10 ^ suc k = omega (arith, h, pow-suc 10 (suc k)) in
-    let some : 1 ≤ 10 ^ k = one-le-pow k 10 (omega arith) in
-    ap (λ cs. cs ++ (hex_digit_ascii (n % 10) ∷ [])) (spelled_in (suc k) fuel (n / 10) (omega arith, omega arith, λ _. subst (λ j. 10 ^ j ≤ n / 10) (sym (pred_one k)) (omega arith)) (omega arith))
-    ∙ ap (λ c. numeral fuel (n / 10) ++ (c ∷ [])) (glyph_is (n % 10) (omega arith))
-    ∙ sym (more fuel n (omega arith))
+short : (k fuel n : ℕ) (cs : List ℕ) → n < 10 → digits_onto (suc k) 10 false n cs ≡ numeral fuel n ++ cs
+short k fuel n cs h = digit k n cs h ∙ rw (one fuel n h) refl
 
--- of a number of 64 bits at most 20
-pub few : (k n : ℕ) → IsDigitCount 10 1 n k → n < 2 ^ 64 → k ≤ 20
-few k n (l, h, m) b = go (dec_le k 20)
+printed_in : (k fuel n : ℕ) (cs : List ℕ) → n < 10 ^ suc k → n ≤ fuel → digits_onto (suc k) 10 false n cs ≡ numeral fuel n ++ cs
+printed_in zero fuel n cs b f = short zero fuel n cs (omega arith)
+printed_in (suc k) zero n cs b f = short (suc k) zero n cs (omega arith)
+printed_in (suc k) (suc fuel) n cs b f = go (dec_le 10 n) (printed_in k fuel (n / 10) ((48 + n % 10) ∷ cs))
   where
-    go : Dec (k ≤ 20) → k ≤ 20
-    go (yes e) = e
-    go (no e) =
-        let large : 10 ^ 20 ≤ 10 ^ (k - 1) = pow-le-pow_right (omega arith) {i = 20} {j = k - 1} (omega arith) in
-        absurd (omega (arith, m (omega arith)))
+    go : Dec (10 ≤ n) → (n / 10 < 10 ^ suc k → n / 10 ≤ fuel → digits_onto (suc k) 10 false (n / 10) ((48 + n % 10) ∷ cs) ≡ numeral fuel (n / 10) ++ ((48 + n % 10) ∷ cs))
+        → digits_onto (suc (suc k)) 10 false n cs ≡ numeral (suc fuel) n ++ cs
+    go (no h) i = short (suc k) (suc fuel) n cs (omega arith)
+    go (yes h) i =
+        step (suc k) n cs h
+        ∙ i (omega (arith, pow-suc 10 (suc k))) (omega arith)
+        ∙ sym (ap (λ l. l ++ cs) (more fuel n h) ∙ append_assoc (numeral fuel (n / 10)) ((48 + n % 10) ∷ []) cs)
 
-pub spelled : (k n : ℕ) → IsDigitCount 10 1 n k → last_digits 10 k n ≡ decimal n
-spelled k n f = spelled_in k n n f (omega arith)
+pub printed : (n : ℕ) → n < 2 ^ 64 → digits 10 false n ≡ decimal n
+unfolding digits
+printed n h = printed_in 63 n n [] (omega arith) (omega arith) ∙ append-nil (decimal n)

@@ -1,5 +1,7 @@
 // A damaged file of frames, taken in piece by piece. A line that ends is judged: kept ones are written in capitals one behind the other, and what is said of dropped and altered ones is written
 // apart. Of a line that has not ended the first characters are kept.
+#![tactic(auto)]
+
 ghost use Rattle.std.specs.Prelude.{◌+◌, ◌^◌, ◌<◌, ◌≤◌, length, drop};
 ghost use Rattle.sift.specs.Sifts.{least_kept, Lent, Sifts, Stepped, Feeds, Ends};
 
@@ -13,14 +15,14 @@ pub const LEAST_KEPT: usize = frames::MOST_SPARSE + 1;
 const MOST_LINE: usize = frames::MOST_SPARSE + 1;
 
 // How many characters are written of a line, and how many are said of it.
-#[derive(Drop)]
+#[derive(Clone, Copy)]
 pub struct Sifted {
     pub filled: usize,
     pub said: usize,
 }
 
 // How many characters of a piece are used, how many are kept of the line that has not ended, which number it has, and how many characters are written and said of those that have.
-#[derive(Drop)]
+#[derive(Clone, Copy)]
 pub struct Fed {
     pub used: usize,
     pub kept: usize,

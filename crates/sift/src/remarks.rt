@@ -3,6 +3,8 @@ ghost use Rattle.std.specs.Prelude.{[], ◌∷◌, ◌+◌, ◌≤◌, length};
 ghost use Rattle.meaning.specs.Salvage.{decimal, dropped, case_only, told};
 ghost use Rattle.sift.specs.Puts.{most_remark, Puts};
 
+use itoa::Buffer;
+
 // The most characters of a number.
 const MOST_DECIMAL: usize = 20;
 
@@ -27,9 +29,9 @@ fn put_decimal(n: u64, at: usize, out: &mut [u8]) -> usize
     ensures puts { Puts (decimal n) at out.old result out.new }
     ensures upper_bound { result ≤ at + 20 }
 {
-    let mut text = [0u8; MOST_DECIMAL];
-    let count = io::decimal(n, &mut text);
-    put(&text[..count], at, out)
+    let mut characters = Buffer::new();
+    let text = characters.format(n);
+    put(text.as_bytes(), at, out)
 }
 
 // That a line is dropped, and its refusal.

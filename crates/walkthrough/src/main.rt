@@ -1,8 +1,10 @@
 // From a check number to its digits, its tape and a residue, each step printed: 349 at width 4. examples/check_number.c prints the same.
+#![tactic(auto)]
+
 ghost use Rattle.std.specs.Prelude.{◌≤◌, length};
 
-use libc::STDOUT_FILENO;
 use sarvundole::{DigitSet, Move, Order, Outcome, Ran, Sign, Step};
+use std::io;
 
 const WIDTH: u8 = 4;
 
@@ -11,75 +13,84 @@ const MODULUS: u32 = 1000;
 const BASE: u32 = 7;
 
 // ---- printing; each says whether it went out. A write that fails is told on standard error, and nothing is written after it
-fn told(went: bool) -> bool {
-    if !went {
-        os::fail(b"walkthrough: standard output");
+fn told(rt: &HostRuntime, went: io::Result<()>) -> bool {
+    match went {
+        Ok(()) => true,
+        Err(fault) => {
+            let _ = eprintln!(rt; "walkthrough: standard output: {fault}");
+            false
+        }
     }
-    went
 }
 
-fn text(bytes: &[u8]) -> bool {
-    told(io::write_all(STDOUT_FILENO, bytes))
+fn text(rt: &HostRuntime, bytes: &[u8]) -> bool {
+    let went = rt.write_all(bytes);
+    told(rt, went)
 }
 
-fn number(n: u64) -> bool {
-    told(io::print_decimal(STDOUT_FILENO, n))
+fn number(rt: &HostRuntime, n: u64) -> bool {
+    let went = rt.print(n);
+    told(rt, went)
 }
 
-fn refused(refusal: u8, place: u16) -> bool {
-    text(b"refused with ")
-        && number(refusal as u64)
-        && text(b" at place ")
-        && number(place as u64)
-        && text(b"\n")
+fn refused(rt: &HostRuntime, refusal: u8, place: u16) -> bool {
+    text(rt, b"refused with ")
+        && number(rt, refusal as u64)
+        && text(rt, b" at place ")
+        && number(rt, place as u64)
+        && text(rt, b"\n")
 }
 
-fn sign_of(d: i8) -> bool {
-    if d < 0 { text(b" -") } else { text(b" ") }
+fn sign_of(rt: &HostRuntime, d: i8) -> bool {
+    if d < 0 {
+        text(rt, b" -")
+    } else {
+        text(rt, b" ")
+    }
 }
 
-fn digit(d: i8) -> bool {
-    sign_of(d) && number(signed::magnitude(d) as u64)
+fn digit(rt: &HostRuntime, d: i8) -> bool {
+    sign_of(rt, d) && number(rt, signed::magnitude(d) as u64)
 }
 
 // The digits under `top`, the highest first.
-fn digits_under(top: usize, digits: &[i8]) -> bool {
+fn digits_under(rt: &HostRuntime, top: usize, digits: &[i8]) -> bool {
     let mut j = top;
     let mut goes = true;
     while 0 < j && goes {
         j -= 1;
         if j < digits.len() {
-            goes = digit(digits[j]);
+            goes = digit(rt, digits[j]);
         }
     }
     goes
 }
 
-fn multiple(m: Move, plus: &[u8], minus: &[u8]) -> bool {
+fn multiple(rt: &HostRuntime, m: Move, plus: &[u8], minus: &[u8]) -> bool {
     let entry = m.entry;
     let sign = m.sign;
     let went = match sign {
-        Sign::Plus => text(plus),
-        Sign::Minus => text(minus),
+        Sign::Plus => text(rt, plus),
+        Sign::Minus => text(rt, minus),
     };
-    went && number(2 * (entry as u64) + 1) && text(b"\n")
+    went && number(rt, 2 * (entry as u64) + 1) && text(rt, b"\n")
 }
 
-fn word(w: u16) -> bool {
+fn word(rt: &HostRuntime, w: u16) -> bool {
     match sarvundole::decode(w) {
-        Step::Double => text(b"  double\n"),
-        Step::Load(m) => multiple(m, b"  load ", b"  load minus "),
-        Step::Add(m) => multiple(m, b"  add ", b"  subtract "),
-        Step::Bad => text(b"  bad\n"),
+        Step::Double => text(rt, b"  double\n"),
+        Step::Load(m) => multiple(rt, m, b"  load ", b"  load minus "),
+        Step::Add(m) => multiple(rt, m, b"  add ", b"  subtract "),
+        Step::Bad => text(rt, b"  bad\n"),
     }
 }
 
-fn first_words(count: usize, words: &[u16]) -> bool {
+fn first_words(rt: &HostRuntime, count: usize, words: &[u16]) -> bool {
     let mut i = 0;
     let mut goes = true;
     while i < count && goes {
         if i < words.len() {
-            goes = word(words[i]);
+            goes = word(rt, words[i]);
         }
         i += 1;
     }
@@ -87,7 +98,7 @@ fn first_words(count: usize, words: &[u16]) -> bool {
 }
 
 // ---- the steps; each says whether the next can be made
-fn recoded(scalar: &[u8], digits: &mut [i8], marks: &mut [u64]) -> bool {
+fn recoded(rt: &HostRuntime, scalar: &[u8], digits: &mut [i8], marks: &mut [u64]) -> bool {
     let made = sarvundole::recode(
         sarvundole::WNAF,
         DigitSet::whole(WIDTH),
@@ -97,19 +108,19 @@ fn recoded(scalar: &[u8], digits: &mut [i8], marks: &mut [u64]) -> bool {
         marks,
     );
     if made.refusal != 0 {
-        refused(made.refusal, made.place);
+        refused(rt, made.refusal, made.place);
         return false;
     }
-    text(b"digits, highest place first:")
-        && digits_under(made.top as usize, digits)
-        && text(b"\nweight ")
-        && number(made.weight as u64)
-        && text(b", top ")
-        && number(made.top as u64)
-        && text(b"\n")
+    text(rt, b"digits, highest place first:")
+        && digits_under(rt, made.top as usize, digits)
+        && text(rt, b"\nweight ")
+        && number(rt, made.weight as u64)
+        && text(rt, b", top ")
+        && number(rt, made.top as u64)
+        && text(rt, b"\n")
 }
 
-fn checked(scalar: &[u8], digits: &[i8]) -> bool {
+fn checked(rt: &HostRuntime, scalar: &[u8], digits: &[i8]) -> bool {
     let made = sarvundole::check_nonadjacent(
         DigitSet::whole(WIDTH),
         Order::HighestFirst,
@@ -117,25 +128,27 @@ fn checked(scalar: &[u8], digits: &[i8]) -> bool {
         digits,
     );
     if made.refusal != 0 {
-        refused(made.refusal, made.place);
+        refused(rt, made.refusal, made.place);
         return false;
     }
-    text(b"checked: worth the number, and nonzero digits at least ")
-        && number(WIDTH as u64)
-        && text(b" places apart\n")
+    text(
+        rt,
+        b"checked: worth the number, and nonzero digits at least ",
+    ) && number(rt, WIDTH as u64)
+        && text(rt, b" places apart\n")
 }
 
 // The count of words, or 0.
-fn taped(digits: &[i8], words: &mut [u16]) -> usize {
+fn taped(rt: &HostRuntime, digits: &[i8], words: &mut [u16]) -> usize {
     let made = sarvundole::tape(DigitSet::whole(WIDTH), digits, words);
     if made.refusal != 0 {
-        refused(made.refusal, made.place);
+        refused(rt, made.refusal, made.place);
         return 0;
     }
-    let went = text(b"tape of ")
-        && number(made.words as u64)
-        && text(b" words:\n")
-        && first_words(made.words as usize, words);
+    let went = text(rt, b"tape of ")
+        && number(rt, made.words as u64)
+        && text(rt, b" words:\n")
+        && first_words(rt, made.words as usize, words);
     if went { made.words as usize } else { 0 }
 }
 
@@ -152,14 +165,14 @@ fn run(count: usize, words: &[u16], multiples: &mut [u32]) -> Ran
     )
 }
 
-fn counts(doublings: u16, additions: u16) -> bool {
-    text(b"doublings ")
-        && number(doublings as u64)
-        && text(b", additions ")
-        && number(additions as u64)
+fn counts(rt: &HostRuntime, doublings: u16, additions: u16) -> bool {
+    text(rt, b"doublings ")
+        && number(rt, doublings as u64)
+        && text(rt, b", additions ")
+        && number(rt, additions as u64)
 }
 
-fn ran(count: usize, words: &[u16], multiples: &mut [u32]) -> bool {
+fn ran(rt: &HostRuntime, count: usize, words: &[u16], multiples: &mut [u32]) -> bool {
     if words.len() < count {
         return false;
     }
@@ -167,47 +180,55 @@ fn ran(count: usize, words: &[u16], multiples: &mut [u32]) -> bool {
     let outcome = made.outcome;
     let cost = made.cost;
     match outcome {
-        Outcome::Refused(why) => refused(why.number, why.place),
+        Outcome::Refused(why) => refused(rt, why.number, why.place),
         Outcome::Residue(residue) => {
-            counts(made.doublings, made.additions)
-                && text(b"; of the multiples: ")
-                && counts(cost.doublings, cost.additions)
-                && text(b"\nresidue ")
-                && number(residue as u64)
-                && text(b" of the number times ")
-                && number(BASE as u64)
-                && text(b" modulo ")
-                && number(MODULUS as u64)
-                && text(b"\n")
+            counts(rt, made.doublings, made.additions)
+                && text(rt, b"; of the multiples: ")
+                && counts(rt, cost.doublings, cost.additions)
+                && text(rt, b"\nresidue ")
+                && number(rt, residue as u64)
+                && text(rt, b" of the number times ")
+                && number(rt, BASE as u64)
+                && text(rt, b" modulo ")
+                && number(rt, MODULUS as u64)
+                && text(rt, b"\n")
         }
     }
 }
 
 fn walk(
+    rt: &HostRuntime,
     scalar: &[u8],
     digits: &mut [i8],
     marks: &mut [u64],
     words: &mut [u16],
     multiples: &mut [u32],
 ) {
-    if !recoded(scalar, digits, marks) {
+    if !recoded(rt, scalar, digits, marks) {
         return;
     }
-    if !checked(scalar, digits) {
+    if !checked(rt, scalar, digits) {
         return;
     }
-    let count = taped(digits, words);
+    let count = taped(rt, digits, words);
     if 0 < count {
-        ran(count, words, multiples);
+        ran(rt, count, words, multiples);
     }
 }
 
 // 17 places hold the 16 bits of the number, and 33 words every tape of so many places.
-fn main() {
+fn main(rt: HostRuntime) {
     let scalar = [0x01u8, 0x5D];
     let mut digits = [0i8; 17];
     let mut marks = [0u64; 9];
     let mut words = [0u16; 33];
     let mut multiples = [0u32; 4];
-    walk(&scalar, &mut digits, &mut marks, &mut words, &mut multiples);
+    walk(
+        &rt,
+        &scalar,
+        &mut digits,
+        &mut marks,
+        &mut words,
+        &mut multiples,
+    );
 }

@@ -9,15 +9,15 @@ use borrow.Author.Rules.{rules}
 use Rattle.sift.proofs.lines.verdict.Statement.{statement}
 use Rattle.sift.proofs.lines.verdict.Tie as tie
 
-returns : tie.Need-returns
-returns c = sym (verdict_long c.before.before.args.line.now (omega arith))
+returns : tie.Need-returns-then-line-gt-MOST_SPARSE
+returns c = sym (verdict_long c.args.line.now (omega arith))
 
-returns_2 : tie.Need-returns-2
+returns_2 : tie.Need-returns
 returns_2 c =
-    let s = c.before.before.before.before.before in
+    let s = c in
     let line = s.args.line.now in
     let lent = length s.args.digits.now in
-    (first_only (read_rules line lent) c.before.read.ensures.first (verdict_short line lent s.requires (omega arith))).0
+    (first_only (read_rules line lent) c.read-parsed.ensures.first (verdict_short line lent s.requires (omega arith))).0
 
 pub verdict_spec : {M : Type 1} → statement M
 verdict_spec = tie.close (tie.spec returns (λ c κs. search rules) (λ c. search rules) returns_2)
