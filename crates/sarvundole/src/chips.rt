@@ -1,4 +1,4 @@
-// The calls for C for the chip without subtraction.
+// The calls for C for the chip without subtraction, as functions of the library.
 ghost use Rattle.meaning.specs.SecondChip.{Translate, RunSecond};
 ghost use Rattle.second.specs.Promises.{translated};
 ghost use Rattle.sarvundole.specs.Runs.{ran};
@@ -8,15 +8,13 @@ use crate::exported::Ran;
 use second::Translated;
 use width::DigitSet;
 
-#[unsafe(no_mangle)]
-pub extern "C" fn sarvundole_translate(set: DigitSet, tape: &[u16], words: &mut [u16]) -> Translated
+pub fn sarvundole_translate(set: DigitSet, tape: &[u16], words: &mut [u16]) -> Translated
     ensures { Translate set.width set.largest tape.now words.old (translated result) words.new }
 {
     second::translate(set, tape, words)
 }
 
-#[unsafe(no_mangle)]
-pub extern "C" fn sarvundole_run_second(
+pub fn sarvundole_run_second(
     set: DigitSet,
     tape: &[u16],
     modulus: u32,

@@ -1,4 +1,4 @@
-// The calls for C. A slice is a pointer and a count there, an answer and a digit set a struct by value, and an order of bytes a byte: 0 highest first, anything else lowest first. Each promises what the call that it makes promises.
+// The calls for C, as functions of the library: `sarvundole_c` exports each under its name. An answer and a digit set are structs that C can have, and an order of bytes is a byte: 0 highest first, anything else lowest first. Each promises what the call that it makes promises.
 ghost use Rattle.std.specs.Prelude.{◌≡◌};
 ghost use Rattle.meaning.specs.Scalars.{order_of};
 ghost use Rattle.meaning.specs.Recoding.{Recode, RecodeBelow};
@@ -36,7 +36,7 @@ use width::DigitSet;
 
 // The run's outcome in plain fields: the refusal and its place, or the residue.
 #[repr(C)]
-#[derive(Drop)]
+#[derive(Clone, Copy)]
 pub struct Ran {
     pub refusal: u8,
     pub place: u16,
@@ -48,7 +48,7 @@ pub struct Ran {
 
 // `given` is 1 where there is a digit, and 0 where the reader is done.
 #[repr(C)]
-#[derive(Drop)]
+#[derive(Clone, Copy)]
 pub struct Reading {
     pub refusal: u8,
     pub given: u8,
@@ -57,7 +57,7 @@ pub struct Reading {
 
 // A reader's state as a caller keeps it: small enough to be passed in registers.
 #[repr(C)]
-#[derive(Drop)]
+#[derive(Clone, Copy)]
 pub struct Reader {
     pub place: u16,
     pub spot: u16,
@@ -70,15 +70,14 @@ pub struct Reader {
 
 // A reader after one call more, and what the call gave.
 #[repr(C)]
-#[derive(Drop)]
+#[derive(Clone, Copy)]
 pub struct Stepped {
     pub reader: Reader,
     pub given: u8,
     pub digit: i8,
 }
 
-#[unsafe(no_mangle)]
-pub extern "C" fn sarvundole_recode(
+pub fn sarvundole_recode(
     form: u8,
     set: DigitSet,
     order: u8,
@@ -91,8 +90,7 @@ pub extern "C" fn sarvundole_recode(
     recoder::recode(form, set, scalar::order_of(order), scalar, digits, marks)
 }
 
-#[unsafe(no_mangle)]
-pub extern "C" fn sarvundole_recode_below(
+pub fn sarvundole_recode_below(
     form: u8,
     set: DigitSet,
     order: u8,
@@ -114,27 +112,19 @@ pub extern "C" fn sarvundole_recode_below(
     )
 }
 
-#[unsafe(no_mangle)]
-pub extern "C" fn sarvundole_check(set: DigitSet, order: u8, scalar: &[u8], digits: &[i8]) -> Tally
+pub fn sarvundole_check(set: DigitSet, order: u8, scalar: &[u8], digits: &[i8]) -> Tally
     ensures { Check (check_rules set.width set.largest (order_of order) scalar.now digits.now) digits.now (told result) }
 {
     judge::check(set, scalar::order_of(order), scalar, digits)
 }
 
-#[unsafe(no_mangle)]
-pub extern "C" fn sarvundole_check_nonadjacent(
-    set: DigitSet,
-    order: u8,
-    scalar: &[u8],
-    digits: &[i8],
-) -> Tally
+pub fn sarvundole_check_nonadjacent(set: DigitSet, order: u8, scalar: &[u8], digits: &[i8]) -> Tally
     ensures { Check (nonadjacent_rules set.width set.largest (order_of order) scalar.now digits.now) digits.now (told result) }
 {
     judge::check_nonadjacent(set, scalar::order_of(order), scalar, digits)
 }
 
-#[unsafe(no_mangle)]
-pub extern "C" fn sarvundole_tape(set: DigitSet, digits: &[i8], words: &mut [u16]) -> Taped
+pub fn sarvundole_tape(set: DigitSet, digits: &[i8], words: &mut [u16]) -> Taped
     ensures { Tape set.width set.largest digits.now words.old (taped result) words.new }
 {
     tape::tape(set, digits, words)
@@ -166,8 +156,7 @@ pub fn reported(made: run::Ran) -> Ran
     }
 }
 
-#[unsafe(no_mangle)]
-pub extern "C" fn sarvundole_run(
+pub fn sarvundole_run(
     set: DigitSet,
     tape: &[u16],
     modulus: u32,
@@ -179,8 +168,7 @@ pub extern "C" fn sarvundole_run(
     reported(run::run(set, tape, modulus, base, multiples))
 }
 
-#[unsafe(no_mangle)]
-pub extern "C" fn sarvundole_run_powers(
+pub fn sarvundole_run_powers(
     set: DigitSet,
     tape: &[u16],
     modulus: u32,
@@ -195,7 +183,7 @@ pub extern "C" fn sarvundole_run_powers(
 }
 
 // What a call of the reader gives, in plain numbers.
-#[derive(Drop)]
+#[derive(Clone, Copy)]
 struct Given {
     given: u8,
     digit: i8,
@@ -210,8 +198,7 @@ fn plain(next: Next) -> Given
     }
 }
 
-#[unsafe(no_mangle)]
-pub extern "C" fn sarvundole_read_at(width: u8, order: u8, scalar: &[u8], calls: u16) -> Reading
+pub fn sarvundole_read_at(width: u8, order: u8, scalar: &[u8], calls: u16) -> Reading
     ensures { Reads width (order_of order) scalar.now calls result.refusal result.given result.digit }
 {
     let made = reader::read_at(width, scalar::order_of(order), scalar, calls);
@@ -255,15 +242,13 @@ fn kept(state: State) -> Reader
     }
 }
 
-#[unsafe(no_mangle)]
-pub extern "C" fn sarvundole_reader_start(width: u8, order: u8, scalar: &[u8]) -> Reader
+pub fn sarvundole_reader_start(width: u8, order: u8, scalar: &[u8]) -> Reader
     ensures { After width (order_of order) scalar.now 0 (state_of result) }
 {
     kept(reader::start(width, scalar::order_of(order), scalar))
 }
 
-#[unsafe(no_mangle)]
-pub extern "C" fn sarvundole_reader_next(scalar: &[u8], reader: Reader) -> Stepped
+pub fn sarvundole_reader_next(scalar: &[u8], reader: Reader) -> Stepped
     ensures { Steps scalar.now (state_of reader) (state_of result.reader) result.given result.digit }
 {
     let before = state(reader);
@@ -286,24 +271,21 @@ pub extern "C" fn sarvundole_reader_next(scalar: &[u8], reader: Reader) -> Stepp
     }
 }
 
-#[unsafe(no_mangle)]
-pub extern "C" fn sarvundole_search(number: u32, width: u8) -> Searched
+pub fn sarvundole_search(number: u32, width: u8) -> Searched
     ensures { Search number width (searched result) }
 {
     search::search(number, width)
 }
 
 // ---- the choice of a width, and the lighter of two strings
-#[unsafe(no_mangle)]
-pub extern "C" fn sarvundole_choose(order: u8, scalar: &[u8], entries: u32) -> Chosen
+pub fn sarvundole_choose(order: u8, scalar: &[u8], entries: u32) -> Chosen
     ensures { Choose (order_of order) scalar.now entries (chosen result) }
 {
     choice::choose(scalar::order_of(order), scalar, entries)
 }
 
 // C has the part by its string and its count of places.
-#[unsafe(no_mangle)]
-pub extern "C" fn sarvundole_lighter(
+pub fn sarvundole_lighter(
     width: u8,
     order: u8,
     scalar: &[u8],
@@ -326,15 +308,13 @@ fn version(number: u8) -> Version
     Version::Sparse
 }
 
-#[unsafe(no_mangle)]
-pub extern "C" fn sarvundole_write(number: u8, digits: &[i8], line: &mut [u8]) -> Framed
+pub fn sarvundole_write(number: u8, digits: &[i8], line: &mut [u8]) -> Framed
     ensures { Write (numbered number) digits.now line.old (framed result) line.new }
 {
     frames::write(version(number), digits, line)
 }
 
-#[unsafe(no_mangle)]
-pub extern "C" fn sarvundole_read(line: &[u8], digits: &mut [i8]) -> Parsed
+pub fn sarvundole_read(line: &[u8], digits: &mut [i8]) -> Parsed
     ensures { Read line.now digits.old (parsed result) digits.new }
 {
     frames::read(line, digits)

@@ -1,4 +1,6 @@
-// The library that a user names: every call and every type of this house under one name, and the calls for C in `exported`, `together` and `chips`.
+// The library that a user names: every call and every type of this house under one name, and the calls that `sarvundole_c` exports to C in `exported`, `together` and `chips`.
+#![tactic(auto)]
+
 pub mod chips;
 pub mod exported;
 pub mod together;

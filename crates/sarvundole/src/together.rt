@@ -1,4 +1,4 @@
-// The calls for C on two scalars together.
+// The calls for C on two scalars together, as functions of the library.
 ghost use Rattle.meaning.specs.Scalars.{order_of};
 ghost use Rattle.meaning.specs.Joining.{Joint};
 ghost use Rattle.meaning.specs.JointRunning.{RunJoint};
@@ -9,8 +9,7 @@ use crate::exported;
 use crate::exported::Ran;
 use joint::Joined;
 
-#[unsafe(no_mangle)]
-pub extern "C" fn sarvundole_joint(
+pub fn sarvundole_joint(
     order: u8,
     a: &[u8],
     b: &[u8],
@@ -18,13 +17,12 @@ pub extern "C" fn sarvundole_joint(
     second: &mut [i8],
     words: &mut [u16],
 ) -> Joined
-    ensures { Joint (order_of order) a.now b.now (record { first = first.entry.now; second = second.old; words = words.old }) (joined result) (record { first = first.exit.now; second = second.new; words = words.new }) }
+    ensures { Joint (order_of order) a.now b.now (record { first = first.old; second = second.old; words = words.old }) (joined result) (record { first = first.new; second = second.new; words = words.new }) }
 {
     joint::joint(scalar::order_of(order), a, b, first, second, words)
 }
 
-#[unsafe(no_mangle)]
-pub extern "C" fn sarvundole_run_joint(
+pub fn sarvundole_run_joint(
     tape: &[u16],
     modulus: u32,
     first: u32,

@@ -8,8 +8,8 @@ use Rattle.sarvundole.proofs.exported.sarvundole_read_at.Tie as tie
 
 returns : tie.Need-returns
 returns c =
-    let r = c.before.before in
-    rw (to_z-of_z {w = w8} (sfits_of c.struct_told.given.1.0.1)) (read (rw r.before.order-of.ensures at r.read_at.ensures) c.before.plain.ensures)
+    let r = c in
+    rw (to_z-of_z {w = w8} (sfits_of c.struct_told-1.given.1.0.1)) (read (rw r.order_of.ensures at r.read_at-made.ensures) c.plain-told.ensures)
 
 pub sarvundole_read_at_spec : {M : Type 1} → statement M
 sarvundole_read_at_spec = tie.close (tie.spec (λ c κs. search rules) (λ c κs. search rules) (λ c κs. search rules) returns)

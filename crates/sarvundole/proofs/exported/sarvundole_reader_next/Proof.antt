@@ -11,23 +11,23 @@ use Rattle.sarvundole.proofs.exported.sarvundole_reader_next.Statement.{statemen
 use Rattle.sarvundole.proofs.exported.sarvundole_reader_next.Tie as tie
 
 -- the step is the call on the state
-called : (c : tie.After-step) → let b = c.before.before in c.step.result ≡ call b.before.before.args.scalar.now b.state.result
+called : (c : tie.After-step-taken) → let b = c.before.before in c.step-taken.result ≡ call b.args.scalar.now b.state-before.result
 called c =
-    let b = c.before.before in
-    rw (to_z-of_z {w = w8} {z = b.state.result.pending} (sfits_of c.before.struct_told.given.1.1.0.1)) at c.step.ensures
+    let b = c in
+    rw (to_z-of_z {w = w8} {z = b.state-before.result.pending} (sfits_of c.struct_told-1.given.1.1.0.1)) at c.step-taken.ensures
 
-kept_requires : tie.Need-kept-requires
+kept_requires : tie.Need-kept-after-requires
 kept_requires c κs =
-    let b = c.before.before.before in
-    let a = b.before.before.args in
-    subst Small (sym (c.moved.ensures ∙ ap (moved b.state.result) (called c.before))) (moves_small a.scalar.now b.state.result b.state.ensures.1)
+    let b = c in
+    let a = b.args in
+    subst Small (sym (c.moved.ensures ∙ ap (moved b.state-before.result) (called c.before))) (moves_small a.scalar.now b.state-before.result b.state-before.ensures.1)
 
 returns : tie.Need-returns
 returns c =
     let k = c.before.before in
     let m = k.before in
-    rw (to_z-of_z {w = w8} (sfits_of c.struct-told2.given.1.0.1))
-    (stepped m.before.before.before.state.ensures.0 (called m.before) (k.kept.ensures ∙ m.moved.ensures) c.before.plain.ensures)
+    rw (to_z-of_z {w = w8} (sfits_of c.struct_told-2-1.given.1.0.1))
+    (stepped m.state-before.ensures.0 (called m.before) (k.kept-after.ensures ∙ m.moved.ensures) c.plain-told.ensures)
 
 pub sarvundole_reader_next_spec : {M : Type 1} → statement M
 sarvundole_reader_next_spec =

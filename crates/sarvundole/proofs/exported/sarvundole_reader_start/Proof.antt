@@ -12,9 +12,9 @@ kept_requires c κs = starts_small c.start.ensures
 
 returns : tie.Need-returns
 returns c =
-    let s = c.before in
-    let a = s.before.before.before.args in
-    subst (After a.width (order_of a.order) a.scalar.now 0) (sym c.kept.ensures) (rw s.before.order-of.ensures at s.start.ensures)
+    let s = c in
+    let a = s.args in
+    subst (After a.width (order_of a.order) a.scalar.now 0) (sym c.kept.ensures) (rw s.order_of.ensures at s.start.ensures)
 
 pub sarvundole_reader_start_spec : {M : Type 1} → statement M
 sarvundole_reader_start_spec = tie.close (tie.spec (λ c κs. search rules) (λ c κs. search rules) kept_requires returns)

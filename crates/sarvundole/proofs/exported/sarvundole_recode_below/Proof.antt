@@ -5,8 +5,8 @@ use Rattle.sarvundole.proofs.exported.sarvundole_recode_below.Tie as tie
 
 returns : tie.Need-returns
 returns c =
-    let r = c.before.before.before in
-    rw r.before.before.before.order-of.ensures at r.recode-below.ensures
+    let r = c in
+    rw r.order_of.ensures at r.recode_below.ensures
 
 pub sarvundole_recode_below_spec : {M : Type 1} → statement M
 sarvundole_recode_below_spec = tie.close (tie.spec (λ c κs. search rules) (λ c κs. search rules) (λ c. search rules) (λ c. search rules) returns)

@@ -4,7 +4,7 @@ use Rattle.sarvundole.proofs.exported.sarvundole_run.Statement.{statement}
 use Rattle.sarvundole.proofs.exported.sarvundole_run.Tie as tie
 
 returns : tie.Need-returns
-returns c = rw c.reported.ensures c.before.before.before.run.ensures.run
+returns c = rw c.reported.ensures c.run.ensures.run
 
 pub sarvundole_run_spec : {M : Type 1} → statement M
 sarvundole_run_spec = tie.close (tie.spec (λ c κs. search rules) (λ c κs. search rules) (λ c. search rules) returns)

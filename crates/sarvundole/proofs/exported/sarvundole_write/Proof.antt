@@ -4,7 +4,7 @@ use Rattle.sarvundole.proofs.exported.sarvundole_write.Statement.{statement}
 use Rattle.sarvundole.proofs.exported.sarvundole_write.Tie as tie
 
 returns : tie.Need-returns
-returns c = rw (← c.before.before.before.before.version.ensures) c.before.before.write.ensures
+returns c = rw (← c.version.ensures) c.write.ensures
 
 pub sarvundole_write_spec : {M : Type 1} → statement M
 sarvundole_write_spec = tie.close (tie.spec (λ c κs. search rules) (λ c κs. search rules) (λ c. search rules) returns)

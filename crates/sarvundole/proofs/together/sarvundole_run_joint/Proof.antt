@@ -4,7 +4,7 @@ use Rattle.sarvundole.proofs.together.sarvundole_run_joint.Statement.{statement}
 use Rattle.sarvundole.proofs.together.sarvundole_run_joint.Tie as tie
 
 returns : tie.Need-returns
-returns c = rw c.reported.ensures c.before.before.before.run-joint.ensures.run
+returns c = rw c.reported.ensures c.run_joint.ensures.run
 
 pub sarvundole_run_joint_spec : {M : Type 1} → statement M
 sarvundole_run_joint_spec = tie.close (tie.spec (λ c κs. search rules) (λ c κs. search rules) (λ c. search rules) returns)

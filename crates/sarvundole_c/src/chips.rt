@@ -1,0 +1,27 @@
+// The calls for C for the chip without subtraction.
+ghost use Rattle.meaning.specs.SecondChip.{Translate, RunSecond};
+ghost use Rattle.second.specs.Promises.{translated};
+ghost use Rattle.sarvundole.specs.Runs.{ran};
+
+use sarvundole::exported::Ran;
+use sarvundole::{DigitSet, Translated};
+
+#[unsafe(no_mangle)]
+pub extern "C" fn sarvundole_translate(set: DigitSet, tape: &[u16], words: &mut [u16]) -> Translated
+    ensures { Translate set.width set.largest tape.now words.old (translated result) words.new }
+{
+    sarvundole::chips::sarvundole_translate(set, tape, words)
+}
+
+#[unsafe(no_mangle)]
+pub extern "C" fn sarvundole_run_second(
+    set: DigitSet,
+    tape: &[u16],
+    modulus: u32,
+    base: u32,
+    multiples: &mut [u32],
+) -> Ran
+    ensures { RunSecond set.width set.largest tape.now modulus base multiples.old (ran result) multiples.new }
+{
+    sarvundole::chips::sarvundole_run_second(set, tape, modulus, base, multiples)
+}
