@@ -1,5 +1,7 @@
 // Chooses a width: for a scalar and a number of entries that the chip can hold, the one whose tape and multiples take the fewest steps together. No string is written: its weight and its
 // top are counted.
+#![tactic(auto)]
+
 ghost use Rattle.std.specs.Prelude.{◌≡◌, ◌+◌, ◌-◌, ◌≤◌, length};
 ghost use Rattle.meaning.specs.Scalars.{number, order_of, bit_count, most_bytes};
 ghost use Rattle.meaning.specs.Multiples.{cost_of};
@@ -48,7 +50,7 @@ fn total(w: u8, order: u8, s: &[u8]) -> u16
 
 // ---- the call
 // A width and its total.
-#[derive(Drop)]
+#[derive(Clone, Copy)]
 struct Candidate {
     width: u8,
     total: u16,
@@ -73,7 +75,7 @@ fn tried(w: u8, entries: u32, order: u8, s: &[u8], best: Candidate) -> Candidate
 
 // What the call answers: 0, or the number of a refusal; on acceptance the width and its total.
 #[repr(C)]
-#[derive(Drop)]
+#[derive(Clone, Copy)]
 pub struct Chosen {
     pub refusal: u8,
     pub width: u8,

@@ -1,5 +1,7 @@
 // Forms 3 to 5, wMOF and the two closest, from the top place down: a window at each place whose bit differs from the one under it. A stretch of the scalar tells at once
 // all places where one may open. The forms differ at one window at most, which the closest form takes one lower at a tie.
+#![tactic(auto)]
+
 ghost use Rattle.std.specs.Prelude.{◌≡◌, ◌+◌, ◌-◌, ◌/◌, ◌%◌, ◌^◌, ◌<◌, ◌≤◌, length};
 ghost use Rattle.std.specs.Int.Count.{count_trailing_zeros};
 ghost use Rattle.laws.specs.Deciding.{Decides};

@@ -1,4 +1,6 @@
 // A string of digits looked at as a whole: whether a width has them all, the lowest that it has not, the weight and the top.
+#![tactic(auto)]
+
 ghost use Rattle.std.specs.Prelude.{◌≡◌, false, ◌&&◌, ◌≤◌, length};
 ghost use Rattle.meaning.specs.Digits.{most_places, all_in, nonzero, weight, top};
 ghost use Rattle.meaning.specs.Refusals.{Lowest};
@@ -8,14 +10,14 @@ ghost use Rattle.digits.specs.Scans.{Scan};
 use width::Width;
 
 // The weight and the top of a string.
-#[derive(Drop)]
+#[derive(Clone, Copy)]
 pub struct Count {
     pub weight: usize,
     pub top: usize,
 }
 
 // What a scan finds: the lowest place whose digit the width does not have, or the counts of a string whose digits it has all.
-#[derive(Drop)]
+#[derive(Clone, Copy)]
 pub enum Found {
     Bad(usize),
     Sound(Count),
@@ -113,7 +115,7 @@ pub fn scan(width: Width, digits: &[i8]) -> Found
 
 // What recode and the checks answer: 0, or the number of a refusal; the place where the refusal names one; and on acceptance the weight and the top.
 #[repr(C)]
-#[derive(Drop)]
+#[derive(Clone, Copy)]
 pub struct Tally {
     pub refusal: u8,
     pub place: u16,

@@ -9,7 +9,7 @@ use lib.IntN.{ℤ, pos, nat_abs, ◌+ℤ◌, ◌*ℤ◌}
 use Rattle.laws.proofs.Integers.{parts, diffs, ring}
 use Rattle.laws.proofs.Powers.{pow_four}
 use Rattle.meaning.specs.Digits.{worth, weight, nonzero}
-use Rattle.forms.proofs.Naf.{Digit, Digits, none, gap, some, Naf, even, odd, nonzero_odd}
+use Rattle.forms.proofs.Naf.{Digit, Digits, none, gap, some, Naf, even, nonzero_odd}
 use Rattle.forms.proofs.Unique.{lemma_S, positive, zero_weight}
 use Rattle.forms.proofs.Exists.{naf}
 use Rattle.forms.proofs.Least.{naf_least}

@@ -15,7 +15,6 @@ use Rattle.laws.proofs.Division.{Parity, is_even, is_odd, parity, halve}
 use Rattle.laws.proofs.Powers.{pow_pred, pow_times}
 use Rattle.laws.proofs.Choices.{and_both}
 use Rattle.meaning.specs.Digits.{largest, in_set, all_in, worth, weight, nonzero}
-use Rattle.forms.proofs.Naf as Naf
 use Rattle.forms.proofs.Naf.{Naf, Digits, nonzero_odd}
 use Rattle.forms.proofs.DigitSets.{in_size, all_in_is}
 use Rattle.meaning.specs.Sets.{Between}

@@ -15,7 +15,7 @@ const ENTRY: usize = 3;
 const DIGIT: usize = 2;
 
 // Broken, or rising with this top.
-#[derive(Drop)]
+#[derive(Clone, Copy)]
 pub enum Order {
     Broken,
     Rising(u16),
@@ -77,7 +77,7 @@ pub fn place_of(line: &[u8], n: usize, e: usize) -> usize
 }
 
 // A place's digit, and the entry to look at for the next place, with its own place.
-#[derive(Drop)]
+#[derive(Clone, Copy)]
 pub struct Pick {
     pub digit: i8,
     pub next: usize,

@@ -4,7 +4,7 @@ ghost use Rattle.frames.specs.Kinds.{Kinded};
 use crate::fields;
 
 // Strange: malformed. Stated: a refused line, with its number. Plain and Sparse: frames of version 1 and 2, whose parts are all there.
-#[derive(Drop)]
+#[derive(Clone, Copy)]
 pub enum Kind {
     Strange,
     Stated(u8),

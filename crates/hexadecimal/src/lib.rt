@@ -1,4 +1,6 @@
 // Bytes as pairs of characters, in either case when read and in capitals when written; digits as bytes, in two's complement, and back.
+#![tactic(auto)]
+
 ghost use Rattle.std.specs.Prelude.{◌≡◌, [], ◌+◌, ◌*◌, ◌<◌, ◌≤◌, T, length};
 ghost use Rattle.std.proofs.lemmas.List.Edits.{sets};
 ghost use Rattle.meaning.specs.Hexadecimal.{nibble, all_hex, bytes_of, capital, pair, written};

@@ -1,4 +1,6 @@
 // The joint run of a tape over residues modulo m: its words are judged, g, h, g + h and g - h stored, then the steps done.
+#![tactic(auto)]
+
 ghost use Rattle.std.specs.Prelude.{◌≡◌, ◌++◌, ◌≤◌, ◌<◌, length, drop};
 ghost use Rattle.meaning.specs.JointRunning.{joint_count, joint_entries_of};
 ghost use Rattle.joined.specs.Promises.{Promise};

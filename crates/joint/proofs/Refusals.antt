@@ -9,7 +9,7 @@ use native.Mathlib.Omega.{arith}
 use lib.IntN.{ℤ}
 use lib.ListN.{length, drop}
 use Rattle.meaning.specs.Scalars.{Order, number, bit_count, most_bytes}
-use Rattle.meaning.specs.Digits.{weight, top}
+use Rattle.meaning.specs.Digits.{top}
 use Rattle.meaning.specs.Refusals.{Rule}
 use Rattle.meaning.specs.Words.{most_words}
 use Rattle.meaning.specs.Taping.{tape_of}

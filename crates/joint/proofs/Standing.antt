@@ -9,7 +9,7 @@ use lib.ListN.{length, drop}
 use lib.Seq.{drop-drop}
 use Rattle.meaning.specs.Joint.{digit_in, column}
 use Rattle.pairs.specs.Columns.{Col, fst, snd, val, row, dig_n, next_n, jsf_n}
-use Rattle.pairs.proofs.Unique.{at}
+use Rattle.pairs.proofs.Regular.{at}
 use Rattle.pairs.proofs.Rows.{row_at, row_length}
 use Rattle.pairs.proofs.Columns.{columns_at, columns_length}
 use Rattle.joint.specs.declared.Turn.{Turn}

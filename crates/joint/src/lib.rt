@@ -1,5 +1,7 @@
 // The joint sparse form of two scalars and the tape of its columns. A counting pass tells how many words the tape has before a digit is written, so a
 // refusal leaves every buffer as lent, and no table of digits is kept.
+#![tactic(auto)]
+
 ghost use Rattle.std.specs.Prelude.{◌≡◌, ◌++◌, suc, ◌+◌, ◌≤◌, ◌<◌, length, drop, set};
 ghost use Rattle.meaning.specs.Scalars.{number, order_of, bit_count, most_bytes};
 ghost use Rattle.meaning.specs.Digits.{top};
@@ -17,7 +19,7 @@ use tape::Step;
 
 // ---- one place
 // A digit of each row, and the carries that go on.
-#[derive(Drop)]
+#[derive(Clone, Copy)]
 struct Turn {
     first: i8,
     second: i8,
@@ -201,7 +203,7 @@ fn write(
 // What it answers: 0, or the number of a refusal, whose place is 0; and on acceptance the nonzero columns, the top, and the counts of the tape's words,
 // doublings and additions.
 #[repr(C)]
-#[derive(Drop)]
+#[derive(Clone, Copy)]
 pub struct Joined {
     pub refusal: u8,
     pub place: u16,
@@ -235,7 +237,7 @@ fn joint_by(
     second: &mut [i8],
     tape: &mut [u16],
 ) -> Joined
-    ensures { Joint (order_of order) a.now b.now (record { first = first.entry.now; second = second.old; words = tape.old }) (joined result) (record { first = first.exit.now; second = second.new; words = tape.new }) }
+    ensures { Joint (order_of order) a.now b.now (record { first = first.old; second = second.old; words = tape.old }) (joined result) (record { first = first.new; second = second.new; words = tape.new }) }
 {
     if MOST_BYTES < a.len() {
         return refused(3);
@@ -288,7 +290,7 @@ pub fn joint(
     second: &mut [i8],
     tape: &mut [u16],
 ) -> Joined
-    ensures { Joint (ordered order) a.now b.now (record { first = first.entry.now; second = second.old; words = tape.old }) (joined result) (record { first = first.exit.now; second = second.new; words = tape.new }) }
+    ensures { Joint (ordered order) a.now b.now (record { first = first.old; second = second.old; words = tape.old }) (joined result) (record { first = first.new; second = second.new; words = tape.new }) }
 {
     joint_by(scalar::code_of(order), a, b, first, second, tape)
 }

@@ -1,4 +1,6 @@
 // Judges digit strings made elsewhere: the call `check`, and `check_nonadjacent` that also asks how far apart the nonzero digits stand.
+#![tactic(auto)]
+
 ghost use Rattle.std.specs.Prelude.{◌≡◌, ◌≢◌, true, ℕ, ◌+◌, ◌*◌, ◌/◌, ◌%◌, ◌^◌, ◌≤◌, ◌<◌, min, max, pos, length, get_or};
 ghost use Rattle.laws.specs.Deciding.{Decides};
 ghost use Rattle.meaning.specs.Scalars.{number, order_of, most_bytes};
@@ -66,7 +68,7 @@ fn eight(digits: &[i8], i: usize) -> u32
 }
 
 // What the comparison of eight places with a byte leaves: a carry to the next eight, and here 0 only if the two agree.
-#[derive(Drop)]
+#[derive(Clone, Copy)]
 struct Turn {
     carry: u32,
     left: u32,
@@ -146,7 +148,7 @@ fn worth_is(order: u8, scalar: &[u8], digits: &[i8]) -> bool
 
 // ---- spacing
 // What a look at the spacing finds: the lower place of the lowest pair that stands too near, or none.
-#[derive(Drop)]
+#[derive(Clone, Copy)]
 enum Spaced {
     Near(usize),
     Apart,

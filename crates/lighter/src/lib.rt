@@ -1,4 +1,6 @@
 // The lighter of two strings that were made for one scalar: both are checked, and a part of one of them is handed back, cut above its highest nonzero place. Nothing is copied.
+#![tactic(auto)]
+
 ghost use Rattle.std.specs.Prelude.{◌≡◌};
 ghost use Rattle.meaning.specs.Lighter.{Pick, Lighter, LighterRefusal};
 ghost use Rattle.scalar.specs.Orders.{ordered};
@@ -9,7 +11,7 @@ use width::DigitSet;
 
 // Which string is the lighter, 0 for the first and 1 for the second, and how many of its places are handed back; or the number of a refusal.
 #[repr(C)]
-#[derive(Drop)]
+#[derive(Clone, Copy)]
 pub struct Picked {
     pub refusal: u8,
     pub which: u8,

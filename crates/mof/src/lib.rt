@@ -1,4 +1,6 @@
 // Form 1, MOF: the digit of a place is the bit under it less its own, so it is put where the two differ. A stretch of the scalar tells where.
+#![tactic(auto)]
+
 ghost use Rattle.std.specs.Prelude.{◌≡◌, ◌+◌, ◌-◌, ◌/◌, ◌%◌, ◌^◌, ◌<◌, ◌≤◌, pos, ◌-ℤ◌, length};
 ghost use Rattle.meaning.specs.Scalars.{number, order_of, bit_count, most_bytes};
 ghost use Rattle.meaning.specs.Recoding.{mark_words, marks_of};

@@ -3,6 +3,7 @@ pub mod Tested
 pub mod Form
 pub mod Steps
 pub mod Least
+pub mod Regular
 pub mod Unique
 pub mod Exists
 pub mod Places

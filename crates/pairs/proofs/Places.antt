@@ -9,7 +9,7 @@ use Rattle.laws.proofs.Integers.{parts, ring, abs, abs_max}
 use Rattle.laws.proofs.Residues.{residue}
 use Rattle.pairs.specs.Columns.{D, Col, fst, snd, val, rule}
 use Rattle.pairs.proofs.Form.{off_max, vals, mod8, dig, next, jsf, worth}
-use Rattle.pairs.proofs.Unique.{Regular}
+use Rattle.pairs.proofs.Regular.{Regular}
 use Rattle.pairs.proofs.Exists.{cut, sparse}
 
 -- what is left of a number is half as large

@@ -17,7 +17,7 @@ use Rattle.meaning.specs.Joint.{largest_in_row, digit_in, Empty, Gap, Neighbours
 use Rattle.pairs.specs.Columns.{D, neg, nil, one, Col, fst, snd, val, off, row}
 use Rattle.pairs.proofs.Tested.{both, left, right, when, then}
 use Rattle.pairs.proofs.Form.{worth, busy, weight}
-use Rattle.pairs.proofs.Unique.{some, same, full, gap, calm, turn, at, Regular}
+use Rattle.pairs.proofs.Regular.{some, same, full, gap, calm, turn, at, Regular}
 
 -- ---- a digit and its integer
 -- the digit of an integer

@@ -1,4 +1,6 @@
 // A buffer of places and the words that mark them, as the forms write them that go from digit to digit: zeros first, then a digit here and there.
+#![tactic(auto)]
+
 pub mod marks;
 pub mod opened;
 

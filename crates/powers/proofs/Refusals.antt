@@ -1,6 +1,6 @@
 -- The rules of the call: what it answers where one of them is the first, and where none applies.
 -- Assumes nothing.
-use mathlib.Core.Path.{◌≡◌, refl, sym, ap, ◌∙◌, subst}
+use mathlib.Core.Path.{◌≡◌, sym, ap, ◌∙◌, subst}
 use mathlib.Core.Logic.{◌≢◌, ⊎_elim}
 use mathlib.Core.List.{List, ◌++◌}
 use Prim.Native.Nat.{ℕ, ◌*◌, ◌%◌, ◌^◌, ◌<◌, ◌≤◌}
@@ -10,7 +10,7 @@ use Rattle.meaning.specs.Digits.{entries}
 use Rattle.meaning.specs.Sets.{Pair}
 use Rattle.meaning.specs.Refusals.{Rule}
 use Rattle.meaning.specs.Words.{most_words, entry_of, plus, minus}
-use Rattle.meaning.specs.Walks.{walk, multiple, tape_value, doublings, additions, Good}
+use Rattle.meaning.specs.Walks.{multiple, tape_value, doublings, additions, Good}
 use Rattle.meaning.specs.Multiples.{cost_of}
 use Rattle.meaning.specs.Powering.{power_rules, power, powers_of}
 use Rattle.forms.proofs.Listed.{listed_length, listed_front}

@@ -1,5 +1,7 @@
 // The run of a tape over powers modulo m: its words are judged, the claimed inverse tested, the odd powers of both stored, then the steps done. A double squares, an addition
 // multiplies by a power of the base, a subtraction by one of the inverse.
+#![tactic(auto)]
+
 ghost use Rattle.std.specs.Prelude.{◌≡◌, ◌++◌, ℕ, ◌*◌, ◌%◌, ◌≤◌, ◌<◌, length, get_or, drop};
 ghost use Rattle.meaning.specs.Words.{most_words};
 ghost use Rattle.meaning.specs.Multiples.{cost_of};

@@ -85,7 +85,7 @@ module _ {w : ℕ} {o : Order} {s : List ℕ} where
   after_done {k} {q} (suc j) A e =
       let t = takes_none (order_of q.order) s q.place q.width q.pending q.spot q.floor (omega arith) in
       let n : k + suc j ≡ suc k + j = omega arith in
-      rw n (after_done j (after_call A) (sym (ap (λ x. x.place) t)))
+      rw n (after_done {k = suc k} {q = moved q (call s q)} j (after_call A) (sym (ap (λ x. x.place) t)))
 
   -- a call that opens a window, or passes one place, where none is open
   module _ {k : ℕ} {q : State} (A : After w o s k q) {t : Taken} (e : t ≡ call s q) (P : Passes (q.place - 1) t) where

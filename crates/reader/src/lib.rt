@@ -1,6 +1,8 @@
 // The reader: wMOF of a lent scalar one digit a call, places n down to 0, then done at every later call. `step` does the work on a plain slice and
-// numbers, and a reader's own functions only take it apart. A caller of `read_at`, of `start`, `call` and `moved`, or of `new_state` and `next_of`, which go
-// through a reader, needs no walk by hand.
+// numbers, and a reader's own functions only take it apart. `read_at`, `start` with `call` and `moved`, and `new_state` with `next_of`, which go through a
+// reader, are for a caller that holds none.
+#![tactic(auto)]
+
 ghost use Rattle.std.specs.Prelude.{◌≡◌, ◌-◌, ◌≤◌, ◌<◌};
 ghost use Rattle.meaning.specs.Scalars.{number, order_of};
 ghost use Rattle.meaning.specs.Digits.{most_places};
@@ -13,7 +15,7 @@ use scalar::Order;
 use width::{Known, Width};
 
 // What a call gives.
-#[derive(Drop)]
+#[derive(Clone, Copy)]
 pub enum Next {
     Digit(i8),
     Done,
@@ -33,7 +35,7 @@ pub struct Reader<'a> {
 }
 
 // A reader without its scalar.
-#[derive(Drop)]
+#[derive(Clone, Copy)]
 pub struct State {
     pub place: usize,
     pub width: u8,
@@ -45,7 +47,7 @@ pub struct State {
 }
 
 // What a call gives, and what it changes in the state.
-#[derive(Drop)]
+#[derive(Clone, Copy)]
 pub struct Taken {
     pub next: Next,
     pub place: usize,
@@ -55,7 +57,7 @@ pub struct Taken {
 }
 
 // The number that a reader holds, and what one of its calls gives.
-#[derive(Drop)]
+#[derive(Clone, Copy)]
 pub struct Reading {
     pub refusal: u8,
     pub next: Next,

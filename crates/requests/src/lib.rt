@@ -1,4 +1,6 @@
 // Requests: a line of hexadecimal read as a frame that asks for a recoding, and the answer to any line written, in the version told.
+#![tactic(auto)]
+
 ghost use Rattle.std.specs.Prelude.{◌≡◌, not, T};
 ghost use Rattle.meaning.specs.Scalars.{highest_first};
 ghost use Rattle.meaning.specs.Whole.{RecodeWhole};

@@ -1,5 +1,7 @@
 // The table read by rows of eight entries. Where a row lies is told by a number that is known when the library is compiled, so the compiler keeps a word for each row and
 // no table is ever set up where it is read: a board's stack is small.
+#![tactic(auto)]
+
 ghost use Rattle.std.specs.Prelude.{◌≡◌, ℕ, ◌+◌, ◌*◌, ◌<◌, ◌≤◌, ℤ};
 ghost use Rattle.meaning.specs.Windows.{table_length};
 ghost use Rattle.table.specs.Tables.{unit_of, twos_of, Table};

@@ -1,4 +1,6 @@
 // The run of a tape over residues modulo m: its words are judged, the odd multiples of the base stored, then the steps done.
+#![tactic(auto)]
+
 ghost use Rattle.std.specs.Prelude.{◌≡◌, ◌++◌, ℕ, ◌+◌, ◌%◌, ◌≤◌, ◌<◌, ltb, length, get_or, drop};
 ghost use Rattle.laws.specs.Deciding.{Decides};
 ghost use Rattle.meaning.specs.Words.{most_words};
@@ -79,7 +81,7 @@ pub fn store(count: usize, modulus: u32, base: u32, multiples: &mut [u32])
 
 // What the multiples cost: to make more than the base itself, it is doubled once, and that double added for each.
 #[repr(C)]
-#[derive(Drop)]
+#[derive(Clone, Copy)]
 pub struct Cost {
     pub doublings: u16,
     pub additions: u16,
@@ -103,7 +105,7 @@ pub fn cost_of(count: usize) -> Cost
 
 // ---- steps
 // The residue reached, and the doublings and additions done.
-#[derive(Drop)]
+#[derive(Clone, Copy)]
 pub struct State {
     pub value: u32,
     pub doublings: u16,
@@ -170,21 +172,21 @@ pub fn reach(words: &[u16], modulus: u32, multiples: &[u32]) -> State
 }
 
 // ---- the call
-#[derive(Drop)]
+#[derive(Clone, Copy)]
 pub struct Refusal {
     pub number: u8,
     pub place: u16,
 }
 
 // The residue reached, or why nothing was done.
-#[derive(Drop)]
+#[derive(Clone, Copy)]
 pub enum Outcome {
     Residue(u32),
     Refused(Refusal),
 }
 
 // The outcome, the doublings and additions done, and beside them what the multiples cost.
-#[derive(Drop)]
+#[derive(Clone, Copy)]
 pub struct Ran {
     pub outcome: Outcome,
     pub doublings: u16,

@@ -6,7 +6,6 @@ use Prim.Native.Nat.{ℕ, ◌≤◌}
 use native.Mathlib.Omega.{arith}
 use lib.IntN.{pos}
 use Rattle.meaning.specs.Refusals.{Rule}
-use Rattle.meaning.specs.Searching as Searching
 use Rattle.meaning.specs.Searching.{search_places, search_rules, Search}
 use Rattle.forms.proofs.Refusals.{Until, number_at, number_some, first_at, first_none}
 use Rattle.search.specs.declared.Searched.{Searched}

@@ -1,5 +1,7 @@
 // The cross-check: a plain search for the least weight of a string of nine places worth a small number. It tries every digit at the lowest place, and searches
 // what is left over it on one place fewer.
+#![tactic(auto)]
+
 ghost use Rattle.std.specs.Prelude.{◌≡◌, ◌+◌, ◌≤◌, min, pos};
 ghost use Rattle.meaning.specs.Searching.{search_places, Search};
 ghost use Rattle.width.specs.Widths.{Whole};
@@ -80,7 +82,7 @@ fn least(width: Width, places: u8, size: usize) -> u8
 
 // What the search answers: a refusal's number, or the least weight.
 #[repr(C)]
-#[derive(Drop)]
+#[derive(Clone, Copy)]
 pub struct Searched {
     pub refusal: u8,
     pub weight: u8,

@@ -1,4 +1,6 @@
 // The chip without subtraction: a tape translated to its words, and the run of its words over residues modulo m. It has each entry's negative as an entry too, `count` further on.
+#![tactic(auto)]
+
 ghost use Rattle.std.specs.Prelude.{◌≡◌, ◌≢◌, ◌++◌, ℕ, ◌*◌, ◌≤◌, ◌<◌, length, get_or, drop};
 ghost use Rattle.laws.specs.Deciding.{Decides};
 ghost use Rattle.meaning.specs.Words.{entry_of, bad, step_of};
@@ -51,7 +53,7 @@ fn write(count: u16, tape: &[u16], words: &mut [u16])
 
 // What a translation is: a refusal's number and place, or the count of its words.
 #[repr(C)]
-#[derive(Drop)]
+#[derive(Clone, Copy)]
 pub struct Translated {
     pub refusal: u8,
     pub place: u16,

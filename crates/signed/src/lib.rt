@@ -1,4 +1,6 @@
 // A signed byte as an unsigned number: its magnitude, and what it is above a level under it.
+#![tactic(auto)]
+
 ghost use Rattle.std.specs.Prelude.{◌≡◌, ◌≤◌, nat_abs};
 ghost use Rattle.signed.specs.Levels.{Raised};
 

@@ -1,4 +1,6 @@
 // A stream of lines, taken in piece by piece: of a line that has not ended the first characters are kept, and a line that ends is answered.
+#![tactic(auto)]
+
 ghost use Rattle.std.specs.Prelude.{◌+◌, ◌≤◌, length, drop};
 ghost use Rattle.meaning.specs.Requests.{Answer};
 ghost use Rattle.frames.specs.Told.{version_of};
@@ -12,7 +14,7 @@ use requests::{MOST_CHARACTERS, answer, most_answer};
 pub const LEAST_KEPT: usize = MOST_CHARACTERS + 1;
 
 // How many characters of a piece are used, how many are kept of the line that has not ended, and how many characters of answers there are.
-#[derive(Drop)]
+#[derive(Clone, Copy)]
 pub struct Fed {
     pub used: usize,
     pub kept: usize,

@@ -1,11 +1,13 @@
 // All windows of all widths: width w starts at 2 ^ (w + 1) - 8 and has an entry for each s from 0 to 2 ^ (w + 1) - 1. An entry gives u and k of what window s
 // is worth, u * 2 ^ k with u odd; both are 0 where the two leading bits of s are equal.
+#![tactic(auto)]
+
 ghost use Rattle.table.specs.Tables.{unit_of, twos_of, Table};
 
 pub const ENTRIES: usize = 1016;
 
 // u and k of a window.
-#[derive(Drop)]
+#[derive(Clone, Copy)]
 pub struct Window {
     pub unit: i8,
     pub twos: u8,

@@ -1,4 +1,6 @@
 // The step tape of a digit string: a word and the step that it decodes to, and the call `tape`.
+#![tactic(auto)]
+
 ghost use Rattle.std.specs.Prelude.{◌≡◌, ◌≢◌, [], ◌∷◌, ◌++◌, ◌+◌, ◌-◌, ◌≤◌, ◌<◌, pos, length, drop};
 ghost use Rattle.std.proofs.lemmas.List.Edits.{sets};
 ghost use Rattle.meaning.specs.Digits.{nonzero, top};
@@ -13,21 +15,21 @@ use digits::Found;
 use width::{DigitSet, Known, Width};
 
 // ---- words
-#[derive(Drop)]
+#[derive(Clone, Copy)]
 pub enum Sign {
     Plus,
     Minus,
 }
 
 // An entry of the odd multiples, with a sign.
-#[derive(Drop)]
+#[derive(Clone, Copy)]
 pub struct Move {
     pub entry: u16,
     pub sign: Sign,
 }
 
 // What a word says; `Bad` where its code is none or a double has an entry.
-#[derive(Drop)]
+#[derive(Clone, Copy)]
 pub enum Step {
     Double,
     Load(Move),
@@ -186,7 +188,7 @@ pub fn without(n: usize, k: usize) -> usize
 
 // What a tape is: a refusal's number and place, or the counts of its words, doublings and additions.
 #[repr(C)]
-#[derive(Drop)]
+#[derive(Clone, Copy)]
 pub struct Taped {
     pub refusal: u8,
     pub place: u16,

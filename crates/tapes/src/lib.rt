@@ -1,4 +1,6 @@
 // The trial's calls on tapes, in the same way: those that make one, those that run one, and the translation.
+#![tactic(auto)]
+
 pub mod joining;
 pub mod jointly;
 pub mod powering;

@@ -1,5 +1,7 @@
 // The width of a recoding with its largest digit, and everything that depends on them alone: the limits of widths, strings and tapes, the digit set, and where its
 // windows start in the table. Every call gets its width from a raw byte by `known`, with another largest digit by `reaching`, and by nothing else.
+#![tactic(auto)]
+
 ghost use Rattle.std.specs.Prelude.{◌≡◌, ◌+◌, ◌*◌, ◌≤◌, max};
 ghost use Rattle.meaning.specs.Digits.{least_width, most_width, most_places, in_set, entries};
 ghost use Rattle.meaning.specs.Words.{most_words};
@@ -7,7 +9,7 @@ ghost use Rattle.meaning.specs.Windows.{table_start};
 ghost use Rattle.width.specs.Widths.{Wide, Whole, Limits, known_of, Reaches, fault_of, Entire};
 
 // How many bits a digit has, its sign included, and the largest digit. The spacing of digits and the windows go by the bits, the digit set and the entries by the largest digit.
-#[derive(Drop)]
+#[derive(Clone, Copy)]
 pub struct Width {
     bits: u8,
     largest: u8,
@@ -15,7 +17,7 @@ pub struct Width {
 
 // A set as a call is asked for one: a width and a largest digit, which may be none.
 #[repr(C)]
-#[derive(Drop)]
+#[derive(Clone, Copy)]
 pub struct DigitSet {
     pub width: u8,
     pub largest: u8,
@@ -57,7 +59,7 @@ impl DigitSet {
 }
 
 // What a raw byte is: a width from the smallest to the largest, or none.
-#[derive(Drop)]
+#[derive(Clone, Copy)]
 pub enum Known {
     As(Width),
     Nothing,
@@ -141,9 +143,9 @@ impl Width {
     // The size of the digit set: 0, and an odd number and its negative for each entry. Its contract also says what the limits above are.
     pub fn digits(self) -> usize
         ensures size { result ≡ 2 * entries self.largest + 1 }
-        ensures* widths { do ⌜ Limits least_width most_width (← (⟦Width::LEAST⟧).entry) (← (⟦Width::MOST⟧).entry) ⌝ }
-        ensures* places { do ⌜ Limits 0 most_places (← (⟦Width::LEAST_PLACES⟧).entry) (← (⟦Width::MOST_PLACES⟧).entry) ⌝ }
-        ensures* words { do ⌜ Limits 0 most_words (← (⟦Width::LEAST_WORDS⟧).entry) (← (⟦Width::MOST_WORDS⟧).entry) ⌝ }
+        ensures widths { Limits least_width most_width Width.LEAST Width.MOST }
+        ensures places { Limits 0 most_places Width.LEAST_PLACES Width.MOST_PLACES }
+        ensures words { Limits 0 most_words Width.LEAST_WORDS Width.MOST_WORDS }
     {
         2 * self.entries() + 1
     }

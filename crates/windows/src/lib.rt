@@ -1,4 +1,6 @@
 // Windows of w + 1 bits: u and k of what a window is worth, looked up in one table of all windows of all widths, or worked out.
+#![tactic(auto)]
+
 pub mod opening;
 
 ghost use Rattle.std.specs.Prelude.{◌≡◌, ◌≢◌, ◌+◌, ◌%◌, ◌^◌, ◌≤◌, ◌<◌, pos, ◌-ℤ◌};

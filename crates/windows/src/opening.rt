@@ -8,7 +8,7 @@ ghost use Rattle.windows.specs.Openings.{Opens, Placed};
 use table::Window;
 
 // A window's digit and its place, and how many places are left under the window.
-#[derive(Drop)]
+#[derive(Clone, Copy)]
 pub struct Place {
     pub spot: usize,
     pub unit: i8,

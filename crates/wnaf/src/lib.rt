@@ -1,5 +1,7 @@
 // Form 2, wNAF, in any set: from the lowest place up, a stretch of the scalar at a time. A stretch holds what remains, and each digit is taken off it: the zeros under the
 // digit are jumped over by their count, and the w - 1 zeros after it with it. The digits are written, or they are only counted.
+#![tactic(auto)]
+
 ghost use Rattle.std.specs.Prelude.{◌≡◌, ◌+◌, ◌*◌, ◌-◌, ◌/◌, ◌%◌, ◌^◌, ◌<◌, ◌≤◌, pos, neg_ℤ, ◌-ℤ◌, length};
 ghost use Rattle.meaning.specs.Scalars.{number, order_of, bit_count, most_bytes};
 ghost use Rattle.meaning.specs.Digits.{most_places, weight, top};
@@ -12,7 +14,7 @@ ghost use Rattle.wnaf.specs.Stretches.{Carried, Left, Written, Counted, Takes};
 use scalar::STRETCH;
 
 // How far the string is written, the carry that goes on, and the top so far.
-#[derive(Drop)]
+#[derive(Clone, Copy)]
 struct Reach {
     place: usize,
     carry: u64,
@@ -54,7 +56,7 @@ pub fn half_span(w: u32) -> u64
 }
 
 // A digit, the carry that goes on, and what remains after it, as far as the stretch goes.
-#[derive(Drop)]
+#[derive(Clone, Copy)]
 struct Taken {
     digit: i8,
     carry: u64,
@@ -204,14 +206,14 @@ pub fn write(
 
 // ---- counting
 // What a string counts.
-#[derive(Drop)]
+#[derive(Clone, Copy)]
 pub struct Counts {
     pub weight: usize,
     pub top: usize,
 }
 
 // How far the string is counted, the carry that goes on, and the weight and the top so far.
-#[derive(Drop)]
+#[derive(Clone, Copy)]
 struct Passed {
     place: usize,
     carry: u64,

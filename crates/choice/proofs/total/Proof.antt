@@ -18,64 +18,64 @@ use Rattle.choice.proofs.total.Statement.{statement}
 use Rattle.choice.proofs.total.Tie as tie
 
 -- half the span less one is the largest digit
-set : (h : tie.After-half-span) → h.half-span.result - 1 ≡ largest h.before.before.args.w
-set h = ap (λ t. t - 1) h.half-span.ensures
+set : (h : tie.After-half_span) → h.half_span.result - 1 ≡ largest h.args.w
+set h = ap (λ t. t - 1) h.half_span.ensures
 
-half_span_requires : tie.Need-half-span-requires
-half_span_requires c κs = c.before.requires.0
+half_span_requires : tie.Need-half_span-requires
+half_span_requires c κs = c.requires.0
 
-sub_count : tie.Need-overflow-sub-count
-sub_count c = omega (arith, c.half-span.ensures, pow_pos (c.before.before.args.w - 1))
+sub_count : tie.Need-overflow_sub-half_span
+sub_count c = omega (arith, c.half_span.ensures, pow_pos (c.args.w - 1))
 
-count_requires : tie.Need-count-requires
-count_requires c κs = (rw (set c) (whole_pair c.before.before.requires.0), c.before.before.requires.1)
+count_requires : tie.Need-count-counts-requires
+count_requires c κs = (rw (set c) (whole_pair c.requires.0), c.requires.1)
 
 -- what the function was called with, and the string that is counted
-abbrev start : tie.After-count → tie.Start
+abbrev start : tie.After-count-counts → tie.Start
 start k = k.before.before.before
 
 string : tie.Start → List ℤ
 string s = let a = s.args in fractional_from a.w (largest a.w) (bit_count a.s.now + 1) (number (order_of a.order) a.s.now)
 
-counted : (k : tie.After-count) → (k.count.result.weight ≡ weight (string (start k))) × (k.count.result.top ≡ top (string (start k)))
+counted : (k : tie.After-count-counts) → (k.count-counts.result.weight ≡ weight (string (start k))) × (k.count-counts.result.top ≡ top (string (start k)))
 unfolding string
-counted k = rw (set k.before) at k.count.ensures
+counted k = rw (set k.before) at k.count-counts.ensures
 
-small : (k : tie.After-count) → let a = (start k).args in number (order_of a.order) a.s.now < 2 ^ bit_count a.s.now
-small k = let a = (start k).args in number_lt (order_of a.order) a.s.now (λ i. (k.before.before.shared-slice-known.given i).fits)
+small : (k : tie.After-count-counts) → let a = (start k).args in number (order_of a.order) a.s.now < 2 ^ bit_count a.s.now
+small k = let a = (start k).args in number_lt (order_of a.order) a.s.now (λ i. (k.shared_slice_known-1.given i).fits)
 
-few : (k : tie.After-count) → (top (string (start k)) ≤ 529) × (weight (string (start k)) ≤ 529)
+few : (k : tie.After-count-counts) → (top (string (start k)) ≤ 529) × (weight (string (start k)) ≤ 529)
 unfolding string
 few k =
     let a = (start k).args in
     let (t, l) = few_counts a.w (number (order_of a.order) a.s.now) (bit_count a.s.now) (start k).requires.0 (small k) in
     (omega (arith, t, (start k).requires.1), omega (arith, l, (start k).requires.1))
 
-add_result : tie.Need-overflow-add-result
-add_result c = let k = c.before.before in record { fits = omega (arith, c.before.fewer.ensures, c.fewer2.ensures, counted k, few k) }
+add_result : tie.Need-overflow_add-result
+add_result c = let k = c.before.before in record { fits = omega (arith, c.fewer.ensures, c.fewer-2.ensures, counted k, few k) }
 
 multiples_requires : tie.Need-multiples-requires
 multiples_requires c κs = (start c.before.before).requires.0
 
 -- the cost of the multiples
-abbrev called : tie.After-cost → tie.After-count
+abbrev called : tie.After-cost → tie.After-count-counts
 called c = c.before.before.before.before
 
 costed : (c : tie.After-cost) → let w = (start (called c)).args.w in c.cost.result ≡ (cost_of (multiples_at w)).doublings + (cost_of (multiples_at w)).additions
-costed c = rw c.before.multiples.ensures at c.cost.ensures
+costed c = rw c.multiples.ensures at c.cost.ensures
 
-whole : (c : tie.After-cost) → c.before.before.before.fewer.result + c.before.before.fewer2.result + c.cost.result ≤ 1200
+whole : (c : tie.After-cost) → c.fewer.result + c.fewer-2.result + c.cost.result ≤ 1200
 whole c =
     let k = called c in
-    omega (arith, c.before.before.before.fewer.ensures, c.before.before.fewer2.ensures, counted k, few k, costed c, cost_few (start k).args.w (start k).pre.0.1)
+    omega (arith, c.fewer.ensures, c.fewer-2.ensures, counted k, few k, costed c, cost_few (start k).args.w (start k).requires.0.1)
 
-cast_result : tie.Need-overflow-cast-result
+cast_result : tie.Need-overflow_cast-result
 cast_result c = record { fits = omega (arith, whole c) }
 
-add_result_2 : tie.Need-overflow-add-result-2
+add_result_2 : tie.Need-overflow_add-result-2
 add_result_2 c = record { fits = omega (arith, whole c) }
 
-cast_result_2 : tie.Need-overflow-cast-result-2
+cast_result_2 : tie.Need-overflow_cast-result-2
 cast_result_2 c = record { fits = omega (arith, whole c) }
 
 returns : tie.Need-returns
@@ -83,8 +83,8 @@ unfolding string
 returns c =
     let k = called c in
     let a = (start k).args in
-    totals_by a.w (number (order_of a.order) a.s.now) (bit_count a.s.now) (start k).pre.0 (small k)
-    (omega (arith, c.before.before.before.fewer.ensures, c.before.before.fewer2.ensures, counted k, costed c))
+    totals_by a.w (number (order_of a.order) a.s.now) (bit_count a.s.now) (start k).requires.0 (small k)
+    (omega (arith, c.fewer.ensures, c.fewer-2.ensures, counted k, costed c))
 
 pub total_spec : {M : Type 1} → statement M
 total_spec =

@@ -9,7 +9,7 @@ use Rattle.laws.proofs.Shifts.{one_shifted}
 use Rattle.descending.proofs.window.Statement.{statement}
 use Rattle.descending.proofs.window.Tie as tie
 
-rem_result : tie.Need-nonzero-rem-result
+rem_result : tie.Need-nonzero_rem-result
 rem_result c = omega (arith, one_shifted (c.args.w + 1) 64 (omega arith), pow_pos (c.args.w + 1))
 
 returns : tie.Need-returns
@@ -17,7 +17,7 @@ returns c =
     let a = c.args in
     ap (λ t. a.x / 2 ^ a.at % t) (one_shifted (a.w + 1) 64 (omega arith))
 
-cast_result_2 : tie.Need-overflow-cast-result-2
+cast_result_2 : tie.Need-overflow_cast-result-3
 cast_result_2 c =
     let a = c.args in
     record { fits = omega (arith, returns c, mod-lt (a.x / 2 ^ a.at) (pow_pos (a.w + 1)), pow_mono {i = a.w + 1} {j = 9} (omega arith)) }

@@ -6,11 +6,11 @@ use Rattle.forms.proofs.Strings.{nonzero_one, nonzero_none}
 use Rattle.digits.proofs.counted.Statement.{statement}
 use Rattle.digits.proofs.counted.Tie as tie
 
-returns : tie.Need-returns
-returns c = sym (nonzero_none (bits_none w8 c.before.args.digit c.before.ranges.digit c.if1.true))
+returns : tie.Need-returns-then-digit-eq0
+returns c = sym (nonzero_none (bits_none w8 c.args.digit c.ranges.digit c.if-digit-eq0.true))
 
-returns_2 : tie.Need-returns-2
-returns_2 c = sym (nonzero_one c.before.args.digit (bits_some w8 c.before.args.digit c.if1.false))
+returns_2 : tie.Need-returns-else-digit-eq0
+returns_2 c = sym (nonzero_one c.args.digit (bits_some w8 c.args.digit c.if-digit-eq0.false))
 
 pub counted_spec : {M : Type 1} → statement M
 counted_spec = tie.close (tie.spec returns returns_2)

@@ -11,49 +11,49 @@ use Rattle.meaning.specs.Digits.{top}
 use Rattle.digits.proofs.top.Statement.{statement}
 use Rattle.digits.proofs.top.Tie as tie
 
-abbrev invariant_loop : tie.invariant_loop
+abbrev invariant_loop : tie.invariant-loop-i
 invariant_loop digits i₀ i = (i ≤ length digits) × (top digits ≡ top (take i digits))
 
-abbrev decreases_loop : tie.decreases_loop
+abbrev decreases_loop : tie.decreases-loop-i
 decreases_loop digits i₀ i = i
 
-loop_holds : tie.Need-loop-init invariant_loop decreases_loop
+loop_holds : tie.Need-loop-i-init invariant_loop decreases_loop
 loop_holds c = let ds = c.args.digits.now in (omega arith, sym (ap top (take_all (length ds) ds (omega arith))))
 
-sub_if1 : tie.Need-overflow-sub-if1 invariant_loop decreases_loop
+sub_if1 : tie.Need-overflow_sub-i invariant_loop decreases_loop
 sub_if1 c = omega arith
 
-shared_slice_copy_out_if1 : tie.Need-shared-slice-copy-out-if1 invariant_loop decreases_loop
+shared_slice_copy_out_if1 : tie.Need-bounds-digits-i invariant_loop decreases_loop
 shared_slice_copy_out_if1 c = omega arith
 
 -- the top is that of the digits up to the one looked at
-last : (c : tie.At-loop invariant_loop decreases_loop) → 0 < c.loop.i → let ds = c.before.args.digits.now in top ds ≡ top (take (c.loop.i - 1 + 1) ds)
-last c h = let n : c.loop.i ≡ c.loop.i - 1 + 1 = omega arith in c.loop.invariant.1 ∙ ap (λ k. top (take k c.before.args.digits.now)) n
+last : (c : tie.At-loop-i invariant_loop decreases_loop) → 0 < c.loop-i.i → let ds = c.args.digits.now in top ds ≡ top (take (c.loop-i.i - 1 + 1) ds)
+last c h = let n : c.loop-i.i ≡ c.loop-i.i - 1 + 1 = omega arith in c.loop-i.invariant.1 ∙ ap (λ k. top (take k c.args.digits.now)) n
 
-returns : tie.Need-returns invariant_loop decreases_loop
+returns : tie.Need-returns-then-digits-i-ne0 invariant_loop decreases_loop
 returns c =
     let l = c.before.before.before in
-    let i = l.loop.i - 1 in
-    sym (last l (omega arith) ∙ top_next l.before.args.digits.now i (omega arith) (bits_some w8 _ c.if1.true) ∙ omega arith)
+    let i = l.loop-i.i - 1 in
+    sym (last l (omega arith) ∙ top_next l.args.digits.now i (omega arith) (bits_some w8 _ c.if-digits-i-ne0.true) ∙ omega arith)
 
-sub_i : tie.Need-overflow-sub-i invariant_loop decreases_loop
+sub_i : tie.Need-overflow_sub-i-in-loop-i invariant_loop decreases_loop
 sub_i c = omega arith
 
-loop_less : tie.Need-loop-smaller invariant_loop decreases_loop
+loop_less : tie.Need-loop-i-smaller invariant_loop decreases_loop
 loop_less c = omega arith
 
-loop_again : tie.Need-loop-preserved invariant_loop decreases_loop
+loop_again : tie.Need-loop-i-preserved invariant_loop decreases_loop
 loop_again c =
     let l = c.before.before.before in
-    let i = l.loop.i - 1 in
-    (omega arith, last l (omega arith) ∙ top_same l.before.args.digits.now i (omega arith) (bits_none w8 _ (record { sfits = c.before.if12.given }) c.if1.false))
+    let i = l.loop-i.i - 1 in
+    (omega arith, last l (omega arith) ∙ top_same l.args.digits.now i (omega arith) (bits_none w8 _ (record { sfits = c.t6-1.given }) c.if-digits-i-ne0.false))
 
-returns_2 : tie.Need-returns-2 invariant_loop decreases_loop
+returns_2 : tie.Need-returns invariant_loop decreases_loop
 unfolding top
 returns_2 c =
-    let ds = c.before.before.args.digits.now in
-    let none : c.before.loop.i ≡ 0 = omega arith in
-    sym (c.before.loop.invariant.1 ∙ ap (λ i. top (take i ds)) none)
+    let ds = c.args.digits.now in
+    let none : c.loop-i.i ≡ 0 = omega arith in
+    sym (c.loop-i.invariant.1 ∙ ap (λ i. top (take i ds)) none)
 
 pub top_spec : {M : Type 1} → statement M
 top_spec =

@@ -6,14 +6,14 @@ use borrow.Author.Rules.{rules}
 use Rattle.hexadecimal.proofs.digit_of.Statement.{statement}
 use Rattle.hexadecimal.proofs.digit_of.Tie as tie
 
-returns : tie.Need-returns
-returns c = digit_plain c.before.args.b (omega arith)
+returns : tie.Need-returns-then-b-lt128
+returns c = digit_plain c.args.b (omega arith)
 
-sub_result_2 : tie.Need-overflow-sub-result-2
-sub_result_2 c = digit_fits (255 - c.before.args.b) (omega arith)
+sub_result_2 : tie.Need-overflow_sub-result-2
+sub_result_2 c = digit_fits (255 - c.args.b) (omega arith)
 
-returns_2 : tie.Need-returns-2
-returns_2 c = digit_under c.before.args.b (omega arith) (omega arith)
+returns_2 : tie.Need-returns
+returns_2 c = digit_under c.args.b (omega arith) (omega arith)
 
 pub digit_of_spec : {M : Type 1} → statement M
 digit_of_spec =

@@ -6,25 +6,25 @@ use Rattle.hexadecimal.proofs.Characters.{decimal, upper, lower, other}
 use Rattle.hexadecimal.proofs.nibble.Statement.{statement}
 use Rattle.hexadecimal.proofs.nibble.Tie as tie
 
-returns : tie.Need-returns
+returns : tie.Need-returns-in-48-to-57
 returns c = sym (decimal _ (omega arith) (omega arith))
 
-returns_2 : tie.Need-returns-2
+returns_2 : tie.Need-returns-in-65-to-70
 returns_2 c = sym (upper _ (omega arith) (omega arith))
 
-returns_3 : tie.Need-returns-3
+returns_3 : tie.Need-returns-in-97-to-102
 returns_3 c = sym (lower _ (omega arith) (omega arith))
 
-returns_4 : tie.Need-returns-4
+returns_4 : tie.Need-returns-in_default
 returns_4 c = sym (other _ (λ l h. omega arith) (λ l h. omega arith) (λ l h. omega arith))
 
-returns_5 : tie.Need-returns-5
+returns_5 : tie.Need-returns-in_default-2
 returns_5 c = sym (other _ (λ l h. omega arith) (λ l h. omega arith) (λ l h. omega arith))
 
-returns_6 : tie.Need-returns-6
+returns_6 : tie.Need-returns-in_default-3
 returns_6 c = sym (other _ (λ l h. omega arith) (λ l h. omega arith) (λ l h. omega arith))
 
-returns_7 : tie.Need-returns-7
+returns_7 : tie.Need-returns-in_default-4
 returns_7 c = sym (other _ (λ l h. omega arith) (λ l h. omega arith) (λ l h. omega arith))
 
 pub nibble_spec : {M : Type 1} → statement M

@@ -6,11 +6,11 @@ use borrow.Author.Rules.{rules}
 use Rattle.hexadecimal.proofs.put.Statement.{statement}
 use Rattle.hexadecimal.proofs.put.Tie as tie
 
-slice_write_out_2 : tie.Need-slice-write-out-2
+slice_write_out_2 : tie.Need-bounds-out-at-2
 slice_write_out_2 c = simp length-set (omega arith)
 
 returns : tie.Need-returns
-returns c = rw (c.before.capital.ensures, c.capital2.ensures, add-one)
+returns c = rw (c.capital.ensures, c.capital-2.ensures, add-one)
 
 pub put_spec : {M : Type 1} → statement M
 put_spec =

@@ -11,9 +11,9 @@ use Rattle.hexadecimal.proofs.put_number.Tie as tie
 
 returns : tie.Need-returns
 returns c =
-    let a = c.before.before.before.before.before.before.before.before.before.args in
-    let high = c.before.before.before.before.before.before.put in
-    let low = c.before.before.put2 in
+    let a = c.args in
+    let high = c.put in
+    let low = c.put-2 in
     low.ensures ∙ ap (λ l. sets l (a.at + 2) (pair (a.x % 256) [])) high.ensures ∙ number_then a.out.now a.at (a.x / 256) (a.x % 256)
 
 pub put_number_spec : {M : Type 1} → statement M

@@ -11,22 +11,22 @@ use Rattle.joint.proofs.counted.Statement.{statement}
 use Rattle.joint.proofs.counted.Tie as tie
 
 -- the column counts as it is
-counts : (c : tie.After-counted) → c.counted.result ≡ nonzero c.before.args.digit
-counts c = c.counted.ensures ∙ ap nonzero (to_z-of_z c.before.ranges.digit)
+counts : (c : tie.After-counted) → c.counted.result ≡ nonzero c.args.digit
+counts c = c.counted.ensures ∙ ap nonzero (to_z-of_z c.ranges.digit)
 
-add_t8 : tie.Need-overflow-add-t8
-add_t8 c = omega (arith, counts c, nonzero_le c.before.args.digit)
+add_t8 : tie.Need-overflow_add-result
+add_t8 c = omega (arith, counts c, nonzero_le c.args.digit)
 
-returns : tie.Need-returns
+returns : tie.Need-returns-then-digit-eq0
 returns c =
-    let s = c.before.before in
-    let z = bits_none w8 s.args.digit s.ranges.digit c.if1.true in
+    let s = c in
+    let z = bits_none w8 s.args.digit s.ranges.digit c.if-digit-eq0.true in
     record { weight_is = omega (arith, counts c.before); same_top = λ e. refl; next_top = λ n. absurd (n z) }
 
-returns_2 : tie.Need-returns-2
+returns_2 : tie.Need-returns-else-digit-eq0
 returns_2 c =
-    let s = c.before.before in
-    let n = bits_some w8 s.args.digit c.if1.false in
+    let s = c in
+    let n = bits_some w8 s.args.digit c.if-digit-eq0.false in
     record { weight_is = omega (arith, counts c.before); same_top = λ e. absurd (n e); next_top = λ m. refl }
 
 pub counted_spec : {M : Type 1} → statement M

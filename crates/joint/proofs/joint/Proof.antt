@@ -9,9 +9,9 @@ use Rattle.joint.proofs.joint.Tie as tie
 
 returns : tie.Need-returns
 returns c =
-    let r = c.before.before.before.before in
-    let t = r.before.before.before.before in
-    rw (ap order_of t.code_of_lem.ensures ∙ code_tells (ordered t.before.before.before.before.args.order)) at r.joint-by.ensures
+    let r = c in
+    let t = r in
+    rw (ap order_of t.code_of.ensures ∙ code_tells (ordered t.args.order)) at r.joint_by.ensures
 
 pub joint_spec : {M : Type 1} → statement M
 joint_spec = tie.close (tie.spec (λ c κs. search rules) (λ c κs. search rules) (λ c. search rules) (λ c. search rules) (λ c. search rules) returns)

@@ -5,16 +5,16 @@ use Rattle.joint.proofs.Turns.{turned_le, level_is}
 use Rattle.joint.proofs.level.Statement.{statement}
 use Rattle.joint.proofs.level.Tie as tie
 
-mul_turned : tie.Need-overflow-mul-turned
+mul_turned : tie.Need-overflow_mul-turned
 mul_turned c = omega (arith, turned_le c.args.s)
 
-mul_result_2 : tie.Need-overflow-mul-result-2
+mul_result_2 : tie.Need-overflow_mul-result-2
 mul_result_2 c = omega (arith, turned_le c.args.s)
 
-add_result : tie.Need-overflow-add-result
+add_result : tie.Need-overflow_add-result
 add_result c = omega (arith, turned_le c.args.s)
 
-shr_result : tie.Need-overflow-shr-result
+shr_result : tie.Need-overflow_shr-result
 shr_result c = omega (arith, turned_le c.args.s)
 
 returns : tie.Need-returns

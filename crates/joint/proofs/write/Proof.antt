@@ -7,15 +7,15 @@ use Rattle.joint.proofs.write.Tie as tie
 
 words_requires : tie.Need-words-requires
 words_requires c κs =
-    let r = c.before.before.before.before.before in
-    let s = r.before.before.before.before.before.before in
+    let r = c in
+    let s = r in
     ready (number (order_of s.args.order) s.args.a.now) (number (order_of s.args.order) s.args.b.now) (bit_count s.args.a.now) r.rows.ensures.0 r.rows.ensures.1 s.requires.1.1.1
 
 returns : tie.Need-returns
 returns c =
-    let w = c.before.before in
-    let r = w.before.before.before.before.before.before in
-    let s = r.before.before.before.before.before.before in
+    let w = c in
+    let r = w in
+    let s = r in
     written (number (order_of s.args.order) s.args.a.now) (number (order_of s.args.order) s.args.b.now) (bit_count s.args.a.now) r.rows.ensures.0 r.rows.ensures.1 w.words.ensures
 
 pub write_spec : {M : Type 1} → statement M

@@ -7,13 +7,13 @@ use Rattle.laws.proofs.Signed.{bits_none, bits_some}
 use Rattle.judge.proofs.crowds.Statement.{statement}
 use Rattle.judge.proofs.crowds.Tie as tie
 
-returns : tie.Need-returns
-returns c = denies (λ h. h.0 (bits_none w8 c.before.args.digit c.before.ranges.digit c.if1.true))
+returns : tie.Need-returns-then-digit-eq0
+returns c = denies (λ h. h.0 (bits_none w8 c.args.digit c.ranges.digit c.if-digit-eq0.true))
 
-returns_2 : tie.Need-returns-2
+returns_2 : tie.Need-returns-else-digit-eq0
 returns_2 c =
-    let a = c.before.args in
-    record { yes = λ t. (bits_some w8 a.digit c.if1.false, ltb-true a.i a.free t); no = λ t h. omega (arith, ltb-false a.i a.free t, h.1) }
+    let a = c.args in
+    record { yes = λ t. (bits_some w8 a.digit c.if-digit-eq0.false, ltb-true a.i a.free t); no = λ t h. omega (arith, ltb-false a.i a.free t, h.1) }
 
 pub crowds_spec : {M : Type 1} → statement M
 crowds_spec = tie.close (tie.spec returns returns_2)

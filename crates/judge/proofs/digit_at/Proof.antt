@@ -11,13 +11,13 @@ use Rattle.judge.specs.Levels.{level}
 use Rattle.judge.proofs.digit_at.Statement.{statement}
 use Rattle.judge.proofs.digit_at.Tie as tie
 
-returns : tie.Need-returns
-returns c = subst (λ d. Raised level d c.raised.result) (to_z-of_z {w = w8} (record { sfits = c.before.raised-arg.given })) c.raised.ensures
+returns : tie.Need-returns-then-i-digits
+returns c = subst (λ d. Raised level d c.raised.result) (to_z-of_z {w = w8} (record { sfits = c.raised-arg-1.given })) c.raised.ensures
 
-returns_2 : tie.Need-returns-2
+returns_2 : tie.Need-returns-else-i-digits
 returns_2 c =
-    let a = c.before.args in
-    let none = get_or-eq_default a.digits.now (pos 0) {n = a.i} c.if1.false in
+    let a = c.args in
+    let none = get_or-eq_default a.digits.now (pos 0) {n = a.i} c.if-i-digits.false in
     rw none (record { is = refl; least = lit≤ tt; most = lit≤ tt })
 
 pub digit_at_spec : {M : Type 1} → statement M

@@ -5,14 +5,14 @@ use Rattle.judge.proofs.Levels.{stretch_rest, stretch_above}
 use Rattle.judge.proofs.eight.Statement.{statement}
 use Rattle.judge.proofs.eight.Tie as tie
 
-returns : tie.Need-returns
-returns c = c.eight-within.ensures
+returns : tie.Need-returns-then-i-digits
+returns c = c.eight_within.ensures
 
-returns_2 : tie.Need-returns-2
-returns_2 c = let a = c.before.before.before.before.args in stretch_rest a.digits.now a.i _ c.lowest-eight.ensures
+returns_2 : tie.Need-returns-then-i-digits-2
+returns_2 c = let a = c.args in stretch_rest a.digits.now a.i _ c.lowest_eight.ensures
 
-returns_3 : tie.Need-returns-3
-returns_3 c = let a = c.before.before.args in stretch_above a.digits.now a.i (omega arith)
+returns_3 : tie.Need-returns
+returns_3 c = let a = c.args in stretch_above a.digits.now a.i (omega arith)
 
 pub eight_spec : {M : Type 1} → statement M
 eight_spec =

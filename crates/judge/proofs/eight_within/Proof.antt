@@ -11,9 +11,9 @@ use Rattle.judge.proofs.eight_within.Tie as tie
 
 returns : tie.Need-returns
 returns c =
-    let a = c.before.before.args in
+    let a = c.args in
     let n : a.i + 8 - a.i ≡ 8 = omega arith in
-    stretch_part a.digits.now a.i _ (subst (λ k. Stretch (take k (drop a.i a.digits.now)) 0 8 c.lowest-eight.result) n c.lowest-eight.ensures)
+    stretch_part a.digits.now a.i _ (subst (λ k. Stretch (take k (drop a.i a.digits.now)) 0 8 c.lowest_eight.result) n c.lowest_eight.ensures)
 
 pub eight_within_spec : {M : Type 1} → statement M
 eight_within_spec = tie.close (tie.spec (λ c. search rules) (λ c. search rules) (λ c. search rules) (λ c. search rules) (λ c κs. search rules) returns)

@@ -6,11 +6,11 @@ use Rattle.laws.proofs.Signed.{bits_none, bits_some}
 use Rattle.judge.proofs.freed.Statement.{statement}
 use Rattle.judge.proofs.freed.Tie as tie
 
-returns : tie.Need-returns
-returns c = record { stays = λ e. refl; moves = λ n. absurd (n (bits_none w8 c.before.args.digit c.before.ranges.digit c.if1.true)) }
+returns : tie.Need-returns-then-digit-eq0
+returns c = record { stays = λ e. refl; moves = λ n. absurd (n (bits_none w8 c.args.digit c.ranges.digit c.if-digit-eq0.true)) }
 
-returns_2 : tie.Need-returns-2
-returns_2 c = record { stays = λ e. absurd (bits_some w8 c.before.args.digit c.if1.false e); moves = λ n. refl }
+returns_2 : tie.Need-returns-else-digit-eq0
+returns_2 c = record { stays = λ e. absurd (bits_some w8 c.args.digit c.if-digit-eq0.false e); moves = λ n. refl }
 
 pub freed_spec : {M : Type 1} → statement M
 freed_spec = tie.close (tie.spec (λ c. search rules) returns returns_2)

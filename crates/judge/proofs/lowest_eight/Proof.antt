@@ -8,38 +8,38 @@ use Rattle.judge.proofs.Levels.{stretch_none, stretch_more}
 use Rattle.judge.proofs.lowest_eight.Statement.{statement}
 use Rattle.judge.proofs.lowest_eight.Tie as tie
 
-abbrev invariant_loop : tie.invariant_loop
+abbrev invariant_loop : tie.invariant-loop-k
 invariant_loop part sum₀ k₀ sum k = (k ≤ 8) × Stretch part k (8 - k) sum
 
-abbrev decreases_loop : tie.decreases_loop
+abbrev decreases_loop : tie.decreases-loop-k
 decreases_loop part sum₀ k₀ sum k = k
 
 -- the sum is small
-small : (c : tie.In-loop invariant_loop decreases_loop) → c.before.loop.sum ≤ 383 * 256
-small c = let l = c.before.loop in omega (arith, l.invariant.1.most, pow_mono {i = 8 - l.k} {j = 8} (omega arith))
+small : (c : tie.In-loop-k invariant_loop decreases_loop) → c.loop-k.sum ≤ 383 * 256
+small c = let l = c.loop-k in omega (arith, l.invariant.1.most, pow_mono {i = 8 - l.k} {j = 8} (omega arith))
 
-loop_holds : tie.Need-loop-init invariant_loop decreases_loop
+loop_holds : tie.Need-loop-k-init invariant_loop decreases_loop
 loop_holds c = (omega arith, stretch_none c.args.part.now 8)
 
-sub_k : tie.Need-overflow-sub-k invariant_loop decreases_loop
+sub_k : tie.Need-overflow_sub-k invariant_loop decreases_loop
 sub_k c = omega arith
 
-mul_sum : tie.Need-overflow-mul-sum invariant_loop decreases_loop
+mul_sum : tie.Need-overflow_mul-sum invariant_loop decreases_loop
 mul_sum c = omega (arith, small c)
 
-digit_at_requires : tie.Need-digit-at-requires invariant_loop decreases_loop
+digit_at_requires : tie.Need-digit_at-requires invariant_loop decreases_loop
 digit_at_requires c κs = tt
 
-add_sum : tie.Need-overflow-add-sum invariant_loop decreases_loop
+add_sum : tie.Need-overflow_add-sum invariant_loop decreases_loop
 add_sum c = omega (arith, small c.before, c.digit_at.ensures.most)
 
-loop_less : tie.Need-loop-smaller invariant_loop decreases_loop
+loop_less : tie.Need-loop-k-smaller invariant_loop decreases_loop
 loop_less c = omega arith
 
-loop_again : tie.Need-loop-preserved invariant_loop decreases_loop
+loop_again : tie.Need-loop-k-preserved invariant_loop decreases_loop
 loop_again c =
-    let a = c.before.before.before.args in
-    let l = c.before.before.loop in
+    let a = c.args in
+    let l = c.loop-k in
     let k = l.k - 1 in
     let here : l.k ≡ k + 1 = omega arith in
     let more : 8 - k ≡ suc (8 - l.k) = omega arith in
@@ -47,7 +47,7 @@ loop_again c =
 
 returns : tie.Need-returns invariant_loop decreases_loop
 returns c =
-    let l = c.before.loop in
+    let l = c.loop-k in
     let none : l.k ≡ 0 = omega arith in
     rw none at l.invariant.1
 

@@ -11,57 +11,57 @@ use Rattle.judge.proofs.Spaces.{Roomy, room_none, room_more, room_short, room_al
 use Rattle.judge.proofs.near.Statement.{statement}
 use Rattle.judge.proofs.near.Tie as tie
 
-abbrev invariant_loop : tie.invariant_loop
+abbrev invariant_loop : tie.invariant-loop-i
 invariant_loop w digits free₀ i₀ free i = Roomy w digits free i
 
-abbrev decreases_loop : tie.decreases_loop
+abbrev decreases_loop : tie.decreases-loop-i
 decreases_loop w digits free₀ i₀ free i = length digits - i
 
-loop_holds : tie.Need-loop-init invariant_loop decreases_loop
+loop_holds : tie.Need-loop-i-init invariant_loop decreases_loop
 loop_holds c = let a = c.args in room_none a.w a.digits.now
 
-shared_slice_copy_out_digit : tie.Need-shared-slice-copy-out-digit invariant_loop decreases_loop
+shared_slice_copy_out_digit : tie.Need-bounds-digits-i invariant_loop decreases_loop
 shared_slice_copy_out_digit c = search rules
 
 crowds_requires : tie.Need-crowds-requires invariant_loop decreases_loop
 crowds_requires c κs = search rules
 
 -- where a digit stands too near
-short : (c : tie.Then1 invariant_loop decreases_loop) → let a = c.before.before.before.before.before.args in let l = c.before.before.before.before.loop in (a.w ≤ l.free) × Lowest (Crowded a.w a.digits.now) (l.free - a.w)
+short : (c : tie.Then-crowds invariant_loop decreases_loop) → let a = c.args in let l = c.loop-i in (a.w ≤ l.free) × Lowest (Crowded a.w a.digits.now) (l.free - a.w)
 short c =
-    let a = c.before.before.before.before.before.args in
-    let l = c.before.before.before.before.loop in
-    let digit = to_z-of_z {w = w8} (record { sfits = c.before.before.digit.given }) in
-    room_short a.w a.digits.now l.free l.i l.invariant digit (c.before.crowds.ensures.yes c.if1.true)
+    let a = c.args in
+    let l = c.loop-i in
+    let digit = to_z-of_z {w = w8} (record { sfits = c.digit-1.given }) in
+    room_short a.w a.digits.now l.free l.i l.invariant digit (c.crowds.ensures.yes c.if-crowds.true)
 
-sub_t11 : tie.Need-overflow-sub-t11 invariant_loop decreases_loop
+sub_t11 : tie.Need-overflow_sub-result invariant_loop decreases_loop
 sub_t11 c = (short c).0
 
-returns : tie.Need-returns invariant_loop decreases_loop
+returns : tie.Need-returns-then-crowds invariant_loop decreases_loop
 returns c = (short c).1
 
-freed_requires : tie.Need-freed-requires invariant_loop decreases_loop
+freed_requires : tie.Need-freed-free-requires invariant_loop decreases_loop
 freed_requires c κs = omega arith
 
-add_i : tie.Need-overflow-add-i invariant_loop decreases_loop
+add_i : tie.Need-overflow_add-i invariant_loop decreases_loop
 add_i c = omega arith
 
-loop_less : tie.Need-loop-smaller invariant_loop decreases_loop
+loop_less : tie.Need-loop-i-smaller invariant_loop decreases_loop
 loop_less c = omega arith
 
-loop_again : tie.Need-loop-preserved invariant_loop decreases_loop
+loop_again : tie.Need-loop-i-preserved invariant_loop decreases_loop
 loop_again c =
-    let k = c.before.before in
-    let a = k.before.before.before.before.args in
-    let l = k.before.before.before.loop in
-    let digit = to_z-of_z {w = w8} (record { sfits = k.before.digit.given }) in
-    room_more a.w a.digits.now l.free c.freed.result l.i l.invariant digit (k.crowds.ensures.no c.before.if1.false) c.freed.ensures
+    let k = c in
+    let a = k.args in
+    let l = k.loop-i in
+    let digit = to_z-of_z {w = w8} (record { sfits = k.digit-1.given }) in
+    room_more a.w a.digits.now l.free c.freed-free.result l.i l.invariant digit (k.crowds.ensures.no c.if-crowds.false) c.freed-free.ensures
 
-returns_2 : tie.Need-returns-2 invariant_loop decreases_loop
+returns_2 : tie.Need-returns invariant_loop decreases_loop
 returns_2 c =
-    let a = c.before.before.args in
-    let l = c.before.loop in
-    room_all a.w a.digits.now l.free l.i l.invariant c.loop-test.false
+    let a = c.args in
+    let l = c.loop-i in
+    room_all a.w a.digits.now l.free l.i l.invariant c.loop-i-test.false
 
 pub near_spec : {M : Type 1} → statement M
 near_spec =

@@ -5,11 +5,11 @@ use Rattle.laws.proofs.Signed.{bits_none}
 use Rattle.judge.proofs.parted.Statement.{statement}
 use Rattle.judge.proofs.parted.Tie as tie
 
-returns : tie.Need-returns
-returns c = λ t l u. l (bits_none w8 c.before.args.lower c.before.ranges.lower c.if1.true)
+returns : tie.Need-returns-then-lower-eq0
+returns c = λ t l u. l (bits_none w8 c.args.lower c.ranges.lower c.if-lower-eq0.true)
 
-returns_2 : tie.Need-returns-2
-returns_2 c = λ t l u. u (bits_none w8 c.before.args.upper c.before.ranges.upper (eqb-true _ 0 t))
+returns_2 : tie.Need-returns-else-lower-eq0
+returns_2 c = λ t l u. u (bits_none w8 c.args.upper c.ranges.upper (eqb-true _ 0 t))
 
 pub parted_spec : {M : Type 1} → statement M
 parted_spec = tie.close (tie.spec returns returns_2)

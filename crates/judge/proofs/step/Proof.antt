@@ -6,12 +6,12 @@ use Rattle.judge.proofs.step.Statement.{statement}
 use Rattle.judge.proofs.step.Tie as tie
 
 carried_requires : tie.Need-carried-requires
-carried_requires c κs = (omega (arith, c.before.eight.ensures.most), omega arith)
+carried_requires c κs = (omega (arith, c.eight.ensures.most), omega arith)
 
 returns : tie.Need-returns
 returns c =
-    let b = c.before in
-    rw c.carried.ensures (turned _ (omega arith) b.before.eight.ensures b.byte.ensures)
+    let b = c in
+    rw c.carried.ensures (turned _ (omega arith) b.eight.ensures b.byte.ensures)
 
 pub step_spec : {M : Type 1} → statement M
 step_spec = tie.close (tie.spec (λ c. search rules) (λ c κs. search rules) (λ c κs. search rules) (λ c. search rules) carried_requires returns)

@@ -11,94 +11,94 @@ use Rattle.judge.proofs.Levels.{Compared, compare_none, compare_more, compare_st
 use Rattle.judge.proofs.worth_is.Statement.{statement}
 use Rattle.judge.proofs.worth_is.Tie as tie
 
-abbrev invariant_loop : tie.invariant_loop
+abbrev invariant_loop : tie.invariant-loop-q
 invariant_loop order scalar digits end both carry₀ q₀ carry q = Compared (number (order_of order) scalar) digits q carry
 
-abbrev decreases_loop : tie.decreases_loop
+abbrev decreases_loop : tie.decreases-loop-q
 decreases_loop order scalar digits end both carry₀ q₀ carry q = both - q
 
-abbrev invariant_loop2 : tie.invariant_loop2
+abbrev invariant_loop2 : tie.invariant-loop-q-2
 invariant_loop2 order scalar digits end both carry₀ q₀ carry q = Compared (number (order_of order) scalar) digits q carry
 
-abbrev decreases_loop2 : tie.decreases_loop2
+abbrev decreases_loop2 : tie.decreases-loop-q-2
 decreases_loop2 order scalar digits end both carry₀ q₀ carry q = 67 - q
 
 -- the end lies above both, and no further than 67 eights
-ends : (c : tie.After-larger invariant_loop decreases_loop invariant_loop2 decreases_loop2) → let a = c.before.before.args in (length a.scalar.now ≤ c.larger.result) × (length a.digits.now ≤ 8 * c.larger.result) × (c.larger.result ≤ 67)
-ends c = omega (arith, c.larger.ensures, c.before.before.requires)
+ends : (c : tie.After-larger-end invariant_loop decreases_loop invariant_loop2 decreases_loop2) → let a = c.args in (length a.scalar.now ≤ c.larger-end.result) × (length a.digits.now ≤ 8 * c.larger-end.result) × (c.larger-end.result ≤ 67)
+ends c = omega (arith, c.larger-end.ensures, c.requires)
 
 -- and as far as both reach there are eight places of the string
-reach : (c : tie.After-smaller invariant_loop decreases_loop invariant_loop2 decreases_loop2) → 8 * c.smaller.result ≤ length c.before.before.before.args.digits.now
-reach c = omega (arith, c.smaller.ensures)
+reach : (c : tie.After-smaller-both invariant_loop decreases_loop invariant_loop2 decreases_loop2) → 8 * c.smaller-both.result ≤ length c.args.digits.now
+reach c = omega (arith, c.smaller-both.ensures)
 
 -- ---- where both reach
-loop_holds : tie.Need-loop-init invariant_loop decreases_loop invariant_loop2 decreases_loop2
-loop_holds c = let a = c.before.before.before.args in compare_none (number (order_of a.order) a.scalar.now) a.digits.now
+loop_holds : tie.Need-loop-q-init invariant_loop decreases_loop invariant_loop2 decreases_loop2
+loop_holds c = let a = c.args in compare_none (number (order_of a.order) a.scalar.now) a.digits.now
 
-step_within_requires : tie.Need-step-within-requires invariant_loop decreases_loop invariant_loop2 decreases_loop2
+step_within_requires : tie.Need-step_within-turn-requires invariant_loop decreases_loop invariant_loop2 decreases_loop2
 step_within_requires c κs =
     let s = c.before.before in
-    let few = s.before.before.before.requires.1 in
-    omega (arith, reach s, few, c.loop-test.true)
+    let few = s.requires.1 in
+    omega (arith, reach s, few, c.loop-q-test.true)
 
-returns : tie.Need-returns invariant_loop decreases_loop invariant_loop2 decreases_loop2
+returns : tie.Need-returns-then-turn-ne0 invariant_loop decreases_loop invariant_loop2 decreases_loop2
 returns c =
-    let s = c.before.before in
-    let l = s.before.before in
-    let a = l.before.before.before.before.args in
-    compare_stop (number (order_of a.order) a.scalar.now) a.digits.now l.loop.q l.loop.carry l.loop.invariant s.step-within.ensures c.if1.true
+    let s = c in
+    let l = s in
+    let a = l.args in
+    compare_stop (number (order_of a.order) a.scalar.now) a.digits.now l.loop-q.q l.loop-q.carry l.loop-q.invariant s.step_within-turn.ensures c.if-turn-ne0.true
 
-add_q : tie.Need-overflow-add-q invariant_loop decreases_loop invariant_loop2 decreases_loop2
+add_q : tie.Need-overflow_add-q invariant_loop decreases_loop invariant_loop2 decreases_loop2
 add_q c =
     let i = c.before.before.before in
     let s = i.before.before in
-    omega (arith, reach s, s.before.before.before.requires.1, i.loop-test.true)
+    omega (arith, reach s, s.requires.1, i.loop-q-test.true)
 
-loop_less : tie.Need-loop-smaller invariant_loop decreases_loop invariant_loop2 decreases_loop2
-loop_less c = let i = c.before.before.before in omega (arith, i.loop-test.true)
+loop_less : tie.Need-loop-q-smaller invariant_loop decreases_loop invariant_loop2 decreases_loop2
+loop_less c = let i = c in omega (arith, i.loop-q-test.true)
 
-loop_again : tie.Need-loop-preserved invariant_loop decreases_loop invariant_loop2 decreases_loop2
+loop_again : tie.Need-loop-q-preserved invariant_loop decreases_loop invariant_loop2 decreases_loop2
 loop_again c =
-    let s = c.before.before in
-    let l = s.before.before in
-    let a = l.before.before.before.before.args in
-    compare_more (number (order_of a.order) a.scalar.now) a.digits.now l.loop.q l.loop.carry l.loop.invariant s.step-within.ensures c.if1.false
+    let s = c in
+    let l = s in
+    let a = l.args in
+    compare_more (number (order_of a.order) a.scalar.now) a.digits.now l.loop-q.q l.loop-q.carry l.loop-q.invariant s.step_within-turn.ensures c.if-turn-ne0.false
 
 -- ---- above
-loop2_holds : tie.Need-loop2-init invariant_loop decreases_loop invariant_loop2 decreases_loop2
-loop2_holds c = c.before.loop.invariant
+loop2_holds : tie.Need-loop-q-2-init invariant_loop decreases_loop invariant_loop2 decreases_loop2
+loop2_holds c = c.loop-q.invariant
 
-step_requires : tie.Need-step-requires invariant_loop decreases_loop invariant_loop2 decreases_loop2
+step_requires : tie.Need-step-turn-requires invariant_loop decreases_loop invariant_loop2 decreases_loop2
 step_requires c κs = omega (arith, ends c.before.before.before.before.before)
 
-returns_2 : tie.Need-returns-2 invariant_loop decreases_loop invariant_loop2 decreases_loop2
+returns_2 : tie.Need-returns-then-turn-ne0-2 invariant_loop decreases_loop invariant_loop2 decreases_loop2
 returns_2 c =
-    let s = c.before.before in
-    let l = s.before.before in
-    let a = l.before.before.before.before.before.before.args in
-    compare_stop (number (order_of a.order) a.scalar.now) a.digits.now l.loop2.q l.loop2.carry l.loop2.invariant s.step.ensures c.if2.true
+    let s = c in
+    let l = s in
+    let a = l.args in
+    compare_stop (number (order_of a.order) a.scalar.now) a.digits.now l.loop-q-2.q l.loop-q-2.carry l.loop-q-2.invariant s.step-turn.ensures c.if-turn-ne0-2.true
 
-add_q_2 : tie.Need-overflow-add-q-2 invariant_loop decreases_loop invariant_loop2 decreases_loop2
+add_q_2 : tie.Need-overflow_add-q-in-loop-q-2 invariant_loop decreases_loop invariant_loop2 decreases_loop2
 add_q_2 c = omega (arith, ends c.before.before.before.before.before.before.before.before)
 
-loop2_less : tie.Need-loop2-smaller invariant_loop decreases_loop invariant_loop2 decreases_loop2
+loop2_less : tie.Need-loop-q-2-smaller invariant_loop decreases_loop invariant_loop2 decreases_loop2
 loop2_less c = omega (arith, ends c.before.before.before.before.before.before.before.before)
 
-loop2_again : tie.Need-loop2-preserved invariant_loop decreases_loop invariant_loop2 decreases_loop2
+loop2_again : tie.Need-loop-q-2-preserved invariant_loop decreases_loop invariant_loop2 decreases_loop2
 loop2_again c =
-    let s = c.before.before in
-    let l = s.before.before in
-    let a = l.before.before.before.before.before.before.args in
-    compare_more (number (order_of a.order) a.scalar.now) a.digits.now l.loop2.q l.loop2.carry l.loop2.invariant s.step.ensures c.if2.false
+    let s = c in
+    let l = s in
+    let a = l.args in
+    compare_more (number (order_of a.order) a.scalar.now) a.digits.now l.loop-q-2.q l.loop-q-2.carry l.loop-q-2.invariant s.step-turn.ensures c.if-turn-ne0-2.false
 
-returns_3 : tie.Need-returns-3 invariant_loop decreases_loop invariant_loop2 decreases_loop2
+returns_3 : tie.Need-returns invariant_loop decreases_loop invariant_loop2 decreases_loop2
 returns_3 c =
     let l = c.before in
     let e = l.before.before.before.before in
-    let a = e.before.before.args in
+    let a = e.args in
     let (short, few, most) = ends e in
-    let small = number_lt (order_of a.order) a.scalar.now (λ i. (e.before.shared-slice-known.given i).fits) in
-    compare_all (number (order_of a.order) a.scalar.now) a.digits.now l.loop2.q l.loop2.carry l.loop2.invariant (omega arith) (lt_of_lt_of_le small (pow_mono (omega arith)))
+    let small = number_lt (order_of a.order) a.scalar.now (λ i. (e.shared_slice_known-1.given i).fits) in
+    compare_all (number (order_of a.order) a.scalar.now) a.digits.now l.loop-q-2.q l.loop-q-2.carry l.loop-q-2.invariant (omega arith) (lt_of_lt_of_le small (pow_mono (omega arith)))
 
 pub worth_is_spec : {M : Type 1} → statement M
 worth_is_spec =

@@ -10,34 +10,34 @@ use Rattle.lighter.proofs.Picks.{one_second, pick_fits}
 use Rattle.lighter.proofs.lighter.Statement.{statement}
 use Rattle.lighter.proofs.lighter.Tie as tie
 
-slice_aggregate_result : tie.Need-slice-aggregate-result
+slice_aggregate_result : tie.Need-slice_bounds-result-end
 slice_aggregate_result c =
-    let k = c.before.before.before.before in
-    let a = k.before.before.args in
-    sym (length-take-le _ _ (omega (arith, pick_fits k.pick.ensures, ap (λ i. length (one_of i a.first.now a.second.now)) c.before.if1.true)))
+    let k = c in
+    let a = k.args in
+    sym (length-take-le _ _ (omega (arith, pick_fits k.pick-picked.ensures, ap (λ i. length (one_of i a.first.now a.second.now)) c.if-picked-eq0.true)))
 
-returns : tie.Need-returns
+returns : tie.Need-returns-then-picked-eq0
 returns c =
-    let k = c.before.before.before.before in
-    let a = k.before.before.args in
-    let n = k.pick.result.places in
-    record { picked = picked k.pick.result; pick = k.pick.ensures; part_is = ap (λ i. take n (one_of i a.first.now a.second.now)) (sym c.before.if1.true) }
+    let k = c in
+    let a = k.args in
+    let n = k.pick-picked.result.places in
+    record { picked = picked k.pick-picked.result; pick = k.pick-picked.ensures; part_is = ap (λ i. take n (one_of i a.first.now a.second.now)) (sym c.if-picked-eq0.true) }
 
-slice_aggregate_result_2 : tie.Need-slice-aggregate-result-2
+slice_aggregate_result_2 : tie.Need-slice_bounds-result-end-2
 slice_aggregate_result_2 c =
-    let k = c.before.before.before.before in
-    let a = k.before.before.args in
-    sym (length-take-le _ _ (omega (arith, pick_fits k.pick.ensures, ap length (one_second k.pick.result.which a.first.now a.second.now c.before.if1.false))))
+    let k = c in
+    let a = k.args in
+    sym (length-take-le _ _ (omega (arith, pick_fits k.pick-picked.ensures, ap length (one_second k.pick-picked.result.which a.first.now a.second.now c.if-picked-eq0.false))))
 
-returns_2 : tie.Need-returns-2
+returns_2 : tie.Need-returns
 returns_2 c =
-    let k = c.before.before.before.before in
-    let a = k.before.before.args in
-    let n = k.pick.result.places in
+    let k = c in
+    let a = k.args in
+    let n = k.pick-picked.result.places in
     record {
-      picked = picked k.pick.result;
-      pick = k.pick.ensures;
-      part_is = ap (take n) (sym (one_second k.pick.result.which a.first.now a.second.now c.before.if1.false));
+      picked = picked k.pick-picked.result;
+      pick = k.pick-picked.ensures;
+      part_is = ap (take n) (sym (one_second k.pick-picked.result.which a.first.now a.second.now c.if-picked-eq0.false));
     }
 
 pub lighter_spec : {M : Type 1} → statement M

@@ -10,44 +10,44 @@ use Rattle.lighter.proofs.pick.Statement.{statement}
 use Rattle.lighter.proofs.pick.Tie as tie
 
 -- ---- the checks, by the width alone: of the first string
-abbrev start : tie.After-check → tie.Start
+abbrev start : tie.After-check-one → tie.Start
 start c = c.before.before.before
 
-one : (c : tie.After-check) → let a = (start c).args in CheckWhole a.width (ordered a.order) a.scalar.now a.first.now (told c.check.result)
+one : (c : tie.After-check-one) → let a = (start c).args in CheckWhole a.width (ordered a.order) a.scalar.now a.first.now (told c.check-one.result)
 one c =
     let a = (start c).args in
-    let e = c.before.whole.ensures in
-    (check_whole a.width c.before.whole.result.largest (λ l m. e.largest_is (l, m)) (ordered a.order) a.scalar.now a.first.now (told c.check.result)).0
-    (rw e.width_is at c.check.ensures)
+    let e = c.whole-set.ensures in
+    (check_whole a.width c.whole-set.result.largest (λ l m. e.largest_is (l, m)) (ordered a.order) a.scalar.now a.first.now (told c.check-one.result)).0
+    (rw e.width_is at c.check-one.ensures)
 
 -- and of the second
-abbrev before : tie.After-check2 → tie.After-check
+abbrev before : tie.After-check-other → tie.After-check-one
 before c = c.before.before.before
 
-other : (c : tie.After-check2) → let a = (start (before c)).args in CheckWhole a.width (ordered a.order) a.scalar.now a.second.now (told c.check2.result)
+other : (c : tie.After-check-other) → let a = (start (before c)).args in CheckWhole a.width (ordered a.order) a.scalar.now a.second.now (told c.check-other.result)
 other c =
     let a = (start (before c)).args in
-    let e = (before c).before.whole.ensures in
-    (check_whole a.width (before c).before.whole.result.largest (λ l m. e.largest_is (l, m)) (ordered a.order) a.scalar.now a.second.now (told c.check2.result)).0
-    (rw e.width_is at c.check2.ensures)
+    let e = (before c).whole-set.ensures in
+    (check_whole a.width (before c).whole-set.result.largest (λ l m. e.largest_is (l, m)) (ordered a.order) a.scalar.now a.second.now (told c.check-other.result)).0
+    (rw e.width_is at c.check-other.ensures)
 
-returns : tie.Need-returns
-returns c = first_refused _ _ _ _ _ (one c.before.before.before) c.before.if1.true c.refused.ensures
+returns : tie.Need-returns-then-one-ne0
+returns c = first_refused _ _ _ _ _ (one c.before.before.before) c.if-one-ne0.true c.refused.ensures
 
-returns_2 : tie.Need-returns-2
+returns_2 : tie.Need-returns-then-other-ne0
 returns_2 c =
     let k = c.before.before.before in
-    second_refused _ _ _ _ _ (one (before k)) k.before.if1.false (other k) c.before.if2.true c.refused2.ensures
+    second_refused _ _ _ _ _ (one (before k)) k.if-one-ne0.false (other k) c.if-other-ne0.true c.refused-then-other-ne0.ensures
 
-returns_3 : tie.Need-returns-3
+returns_3 : tie.Need-returns-then-one-other
 returns_3 c =
     let k = c.before.before.before.before.before in
-    picks_first _ _ _ _ _ (one (before k)) k.before.if1.false (other k) c.before.before.before.if2.false (omega (arith, c.if3.true))
+    picks_first _ _ _ _ _ (one (before k)) k.if-one-ne0.false (other k) c.if-other-ne0.false (omega (arith, c.if-one-other.true))
 
-returns_4 : tie.Need-returns-4
+returns_4 : tie.Need-returns
 returns_4 c =
     let k = c.before.before.before.before.before in
-    picks_second _ _ _ _ _ (one (before k)) k.before.if1.false (other k) c.before.before.before.if2.false (omega (arith, c.if3.false))
+    picks_second _ _ _ _ _ (one (before k)) k.if-one-ne0.false (other k) c.if-other-ne0.false (omega (arith, c.if-one-other.false))
 
 pub pick_spec : {M : Type 1} → statement M
 pick_spec =

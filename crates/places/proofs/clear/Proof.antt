@@ -26,66 +26,66 @@ all x d₀ d i f h =
     let w = f.within in
     fill_exact (replicate (length d₀) x) d₀ d i f (omega arith) (omega arith)
 
-abbrev invariant_loop : tie.invariant_loop
+abbrev invariant_loop : tie.invariant-loop-i
 invariant_loop digits₀ marks i₀ digits i = Filled (replicate (length digits₀) (pos 0)) digits₀ digits i
 
-abbrev decreases_loop : tie.decreases_loop
+abbrev decreases_loop : tie.decreases-loop-i
 decreases_loop digits₀ marks i₀ digits i = length digits - i
 
-abbrev invariant_loop2 : tie.invariant_loop2
+abbrev invariant_loop2 : tie.invariant-loop-q
 invariant_loop2 digits marks₀ i q₀ marks q = Filled (replicate (length marks₀) 0) marks₀ marks q
 
-abbrev decreases_loop2 : tie.decreases_loop2
+abbrev decreases_loop2 : tie.decreases-loop-q
 decreases_loop2 digits marks₀ i q₀ marks q = length marks - q
 
-loop_holds : tie.Need-loop-init invariant_loop decreases_loop invariant_loop2 decreases_loop2
+loop_holds : tie.Need-loop-i-init invariant_loop decreases_loop invariant_loop2 decreases_loop2
 loop_holds c = let d₀ = c.args.digits.now in fill_none (replicate (length d₀) (pos 0)) d₀
 
-slice_set_of_digits : tie.Need-slice-set-of-digits invariant_loop decreases_loop invariant_loop2 decreases_loop2
+slice_set_of_digits : tie.Need-slice_set_of-digits invariant_loop decreases_loop invariant_loop2 decreases_loop2
 slice_set_of_digits c = omega arith
 
-add_i : tie.Need-overflow-add-i invariant_loop decreases_loop invariant_loop2 decreases_loop2
+add_i : tie.Need-overflow_add-i invariant_loop decreases_loop invariant_loop2 decreases_loop2
 add_i c = omega arith
 
-loop_less : tie.Need-loop-smaller invariant_loop decreases_loop invariant_loop2 decreases_loop2
+loop_less : tie.Need-loop-i-smaller invariant_loop decreases_loop invariant_loop2 decreases_loop2
 loop_less c = simp length-set (omega arith)
 
-loop_again : tie.Need-loop-preserved invariant_loop decreases_loop invariant_loop2 decreases_loop2
-loop_again c = let l = c.before.loop in more (pos 0) c.before.before.args.digits.now l.digits l.i l.invariant c.loop-test.true
+loop_again : tie.Need-loop-i-preserved invariant_loop decreases_loop invariant_loop2 decreases_loop2
+loop_again c = let l = c.loop-i in more (pos 0) c.args.digits.now l.digits l.i l.invariant c.loop-i-test.true
 
-loop2_holds : tie.Need-loop2-init invariant_loop decreases_loop invariant_loop2 decreases_loop2
-loop2_holds c = let m₀ = c.before.before.args.marks.now in fill_none (replicate (length m₀) 0) m₀
+loop2_holds : tie.Need-loop-q-init invariant_loop decreases_loop invariant_loop2 decreases_loop2
+loop2_holds c = let m₀ = c.args.marks.now in fill_none (replicate (length m₀) 0) m₀
 
-mul_marks : tie.Need-overflow-mul-marks invariant_loop decreases_loop invariant_loop2 decreases_loop2
+mul_marks : tie.Need-offset_bounds-marks-q invariant_loop decreases_loop invariant_loop2 decreases_loop2
 mul_marks c = omega arith
 
-slice_write_marks : tie.Need-slice-write-marks invariant_loop decreases_loop invariant_loop2 decreases_loop2
+slice_write_marks : tie.Need-bounds-marks-q invariant_loop decreases_loop invariant_loop2 decreases_loop2
 slice_write_marks c = omega arith
 
-add_q : tie.Need-overflow-add-q invariant_loop decreases_loop invariant_loop2 decreases_loop2
+add_q : tie.Need-overflow_add-q invariant_loop decreases_loop invariant_loop2 decreases_loop2
 add_q c = omega arith
 
-loop2_less : tie.Need-loop2-smaller invariant_loop decreases_loop invariant_loop2 decreases_loop2
+loop2_less : tie.Need-loop-q-smaller invariant_loop decreases_loop invariant_loop2 decreases_loop2
 loop2_less c = simp length-set (omega arith)
 
-loop2_again : tie.Need-loop2-preserved invariant_loop decreases_loop invariant_loop2 decreases_loop2
-loop2_again c = let l = c.before.loop2 in more 0 c.before.before.before.before.args.marks.now l.marks l.q l.invariant c.loop2-test.true
+loop2_again : tie.Need-loop-q-preserved invariant_loop decreases_loop invariant_loop2 decreases_loop2
+loop2_again c = let l = c.loop-q in more 0 c.args.marks.now l.marks l.q l.invariant c.loop-q-test.true
 
-same_length : tie.Need-same-length invariant_loop decreases_loop invariant_loop2 decreases_loop2
-same_length c = c.before.before.before.loop.invariant.same_length
+same_length : tie.Need-shape_of-digits invariant_loop decreases_loop invariant_loop2 decreases_loop2
+same_length c = c.loop-i.invariant.same_length
 
-same_length_2 : tie.Need-same-length-2 invariant_loop decreases_loop invariant_loop2 decreases_loop2
-same_length_2 c = c.before.loop2.invariant.same_length
+same_length_2 : tie.Need-shape_of-marks invariant_loop decreases_loop invariant_loop2 decreases_loop2
+same_length_2 c = c.loop-q.invariant.same_length
 
 returns : tie.Need-returns invariant_loop decreases_loop invariant_loop2 decreases_loop2
 returns c =
     let p = c.before.before in
-    let a = p.before.before.args in
-    let l = p.before.loop in
-    let k = c.before.loop2 in
-    let z = all (pos 0) a.digits.now l.digits l.i l.invariant p.loop-test.false in
+    let a = p.args in
+    let l = p.loop-i in
+    let k = c.loop-q in
+    let z = all (pos 0) a.digits.now l.digits l.i l.invariant p.loop-i-test.false in
     let n : length a.marks.now ≡ 9 = omega arith in
-    (z, all 0 a.marks.now k.marks k.q k.invariant c.loop2-test.false ∙ ap (λ t. replicate t 0) n ∙ sym (marks_zeros (length a.digits.now)) ∙ ap marks_of (sym z))
+    (z, all 0 a.marks.now k.marks k.q k.invariant c.loop-q-test.false ∙ ap (λ t. replicate t 0) n ∙ sym (marks_zeros (length a.digits.now)) ∙ ap marks_of (sym z))
 
 pub clear_spec : {M : Type 1} → statement M
 clear_spec =

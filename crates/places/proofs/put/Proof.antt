@@ -29,15 +29,15 @@ new c =
     let gain = ap (λ t. t * 2 ^ (a.place % 64)) (nonzero_one a.digit c.requires.1.1.1.1) in
     rw c.requires.1.1.0 (omega (arith, one, old, gain, word_put ds a.place a.digit (omega arith) (omega arith)))
 
-slice_read_marks : tie.Need-slice-read-marks
+slice_read_marks : tie.Need-bounds-marks-q
 slice_read_marks c = omega (arith, words c.before)
 
-add_marks : tie.Need-overflow-add-marks
+add_marks : tie.Need-overflow_add-marks
 add_marks c =
-    let a = c.before.args in
+    let a = c.args in
     rw (new c.before) (record { fits = marks_lt (set a.digits.now a.place a.digit) (a.place / 64) (omega arith) })
 
-slice_write_marks : tie.Need-slice-write-marks
+slice_write_marks : tie.Need-bounds-marks-q-2
 slice_write_marks c = omega (arith, words c.before)
 
 returns : tie.Need-returns

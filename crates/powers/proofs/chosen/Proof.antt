@@ -6,15 +6,15 @@ use Rattle.powers.specs.Walks.{lent}
 use Rattle.powers.proofs.chosen.Statement.{statement}
 use Rattle.powers.proofs.chosen.Tie as tie
 
-returns : tie.Need-returns
+returns : tie.Need-returns-in-Plus
 returns c =
-    let a = c.before.before.before.before.args in
-    sym (ap (λ s. lent a.powers.now a.inverses.now (side s) a.step.entry) c.before.enum_told.given.1)
+    let a = c.args in
+    sym (ap (λ s. lent a.powers.now a.inverses.now (side s) a.step.entry) c.in-Plus.is)
 
-returns_2 : tie.Need-returns-2
+returns_2 : tie.Need-returns-in-Minus
 returns_2 c =
-    let a = c.before.before.before.before.args in
-    sym (ap (λ s. lent a.powers.now a.inverses.now (side s) a.step.entry) c.before.enum-told2.given.1)
+    let a = c.args in
+    sym (ap (λ s. lent a.powers.now a.inverses.now (side s) a.step.entry) c.in-Minus.is)
 
 pub chosen_spec : {M : Type 1} → statement M
 chosen_spec =

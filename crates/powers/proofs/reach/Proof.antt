@@ -9,51 +9,51 @@ use Rattle.powers.specs.Walks.{lent}
 use Rattle.powers.proofs.reach.Statement.{statement}
 use Rattle.powers.proofs.reach.Tie as tie
 
-abbrev invariant_loop : tie.invariant_loop
+abbrev invariant_loop : tie.invariant-loop-i
 invariant_loop words modulus powers inverses state₀ i₀ state i =
     Walking (products modulus) (lent powers inverses) words state.value state.doublings state.additions i
 
-abbrev decreases_loop : tie.decreases_loop
+abbrev decreases_loop : tie.decreases-loop-i
 decreases_loop words modulus powers inverses state₀ i₀ state i = length words - i
 
-rem_t7 : tie.Need-nonzero-rem-t7 invariant_loop decreases_loop
-rem_t7 c = c.before.before.before.requires.0.0
+rem_t7 : tie.Need-nonzero_rem-state invariant_loop decreases_loop
+rem_t7 c = c.requires.0.0
 
-loop_holds : tie.Need-loop-init invariant_loop decreases_loop
+loop_holds : tie.Need-loop-i-init invariant_loop decreases_loop
 loop_holds c =
-    let a = c.before.before.before.args in
+    let a = c.args in
     walks_none (products a.modulus) (lent a.powers.now a.inverses.now) a.words.now refl
 
-mul_step : tie.Need-overflow-mul-step invariant_loop decreases_loop
+mul_step : tie.Need-offset_bounds-words-i invariant_loop decreases_loop
 mul_step c = omega arith
 
-shared_slice_read_step : tie.Need-shared-slice-read-step invariant_loop decreases_loop
+shared_slice_read_step : tie.Need-bounds-words-i invariant_loop decreases_loop
 shared_slice_read_step c = omega arith
 
-step_requires : tie.Need-step-requires invariant_loop decreases_loop
+step_requires : tie.Need-step-state-requires invariant_loop decreases_loop
 step_requires c κs =
-    let s = c.before.before.before.before.before.before in
-    let l = c.before.before.loop in (
+    let s = c in
+    let l = c.loop-i in (
       (s.requires.0.0, record { doublings_few = omega (arith, l.invariant.doublings_few, s.requires.0.1); additions_few = omega (arith, l.invariant.additions_few, s.requires.0.1) }),
       s.requires.1 l.i (omega arith),
     )
 
-add_i : tie.Need-overflow-add-i invariant_loop decreases_loop
+add_i : tie.Need-overflow_add-i invariant_loop decreases_loop
 add_i c = omega arith
 
-loop_less : tie.Need-loop-smaller invariant_loop decreases_loop
+loop_less : tie.Need-loop-i-smaller invariant_loop decreases_loop
 loop_less c = omega arith
 
-loop_again : tie.Need-loop-preserved invariant_loop decreases_loop
+loop_again : tie.Need-loop-i-preserved invariant_loop decreases_loop
 loop_again c =
-    let a = c.before.before.before.before.before.before.before.args in
-    let l = c.before.before.before.loop in
-    walks_more (products a.modulus) (lent a.powers.now a.inverses.now) a.words.now l.invariant (omega arith) c.step.ensures
+    let a = c.args in
+    let l = c.loop-i in
+    walks_more (products a.modulus) (lent a.powers.now a.inverses.now) a.words.now l.invariant (omega arith) c.step-state.ensures
 
 returns : tie.Need-returns invariant_loop decreases_loop
 returns c =
-    let a = c.before.before.before.before.before.args in
-    walks_all (products a.modulus) (lent a.powers.now a.inverses.now) a.words.now c.before.loop.invariant (omega arith)
+    let a = c.args in
+    walks_all (products a.modulus) (lent a.powers.now a.inverses.now) a.words.now c.loop-i.invariant (omega arith)
 
 pub reach_spec : {M : Type 1} → statement M
 reach_spec =

@@ -13,52 +13,52 @@ use Rattle.powers.proofs.step.Tie as tie
 
 chosen_requires : tie.Need-chosen-requires
 chosen_requires c κs =
-    let d = c.before.before.before in
-    let s = d.before.before.before in
-    let e = (says s.args.word d.decode.ensures c.before.m.given.1).1 in
+    let d = c in
+    let s = d in
+    let e = (says s.args.word d.decode.ensures c.in-Load.is).1 in
     (omega (arith, e, s.requires.1.within), omega (arith, e, s.requires.1.within_inverse))
 
-chosen_requires_2 : tie.Need-chosen-requires-2
+chosen_requires_2 : tie.Need-chosen-requires-in-Add
 chosen_requires_2 c κs =
-    let d = c.before.before.before in
-    let s = d.before.before.before in
-    let e = (says s.args.word d.decode.ensures c.before.m2.given.1).1 in
+    let d = c in
+    let s = d in
+    let e = (says s.args.word d.decode.ensures c.in-Add.is).1 in
     (omega (arith, e, s.requires.1.within), omega (arith, e, s.requires.1.within_inverse))
 
-returns : tie.Need-returns
+returns : tie.Need-returns-in-Double
 returns c =
-    let t = c.before.before in
-    let d = t.before.before in
-    let a = d.before.before.before.args in
+    let t = c in
+    let d = t in
+    let a = d.args in
     steps_double (products a.modulus) (lent a.powers.now a.inverses.now) a.word a.state.value a.state.doublings a.state.additions
-    (sym d.decode.ensures ∙ ap told t.enum_told.given.1) c.before.times.ensures
+    (sym d.decode.ensures ∙ ap told t.in-Double.is) c.times.ensures
 
-returns_2 : tie.Need-returns-2
+returns_2 : tie.Need-returns-in-Load
 returns_2 c =
-    let k = c.before.before in
-    let d = k.before.before in
-    let a = d.before.before.before.args in
-    let m = k.m.given.0.0 in
+    let k = c in
+    let d = k in
+    let a = d.args in
+    let m = k.in-Load.m in
     steps_load (products a.modulus) (lent a.powers.now a.inverses.now) a.word a.state.value a.state.doublings a.state.additions
-    (side m.sign) m.entry (sym d.decode.ensures ∙ ap told k.m.given.1) c.chosen.ensures
+    (side m.sign) m.entry (sym d.decode.ensures ∙ ap told k.in-Load.is) c.chosen.ensures
 
-returns_3 : tie.Need-returns-3
+returns_3 : tie.Need-returns-in-Add
 returns_3 c =
-    let k = c.before.before.before.before in
-    let d = k.before.before in
-    let a = d.before.before.before.args in
-    let m = k.m2.given.0.0 in
+    let k = c in
+    let d = k in
+    let a = d.args in
+    let m = k.in-Add.m in
     steps_add (products a.modulus) (lent a.powers.now a.inverses.now) a.word a.state.value a.state.doublings a.state.additions
-    (side m.sign) m.entry (sym d.decode.ensures ∙ ap told k.m2.given.1)
-    (c.before.times2.ensures ∙ ap (λ b. a.state.value * b % a.modulus) c.before.before.chosen2.ensures)
+    (side m.sign) m.entry (sym d.decode.ensures ∙ ap told k.in-Add.is)
+    (c.times-in-Add.ensures ∙ ap (λ b. a.state.value * b % a.modulus) c.chosen-in-Add.ensures)
 
-returns_4 : tie.Need-returns-4
+returns_4 : tie.Need-returns-in-Bad
 returns_4 c =
-    let d = c.before.before in
-    let s = d.before.before.before in
+    let d = c in
+    let s = d in
     let a = s.args in
     steps_bad (products a.modulus) (lent a.powers.now a.inverses.now) a.word a.state.value a.state.doublings a.state.additions
-    s.requires.1.double (sym d.decode.ensures ∙ ap told c.enum-told2.given.1)
+    s.requires.1.double (sym d.decode.ensures ∙ ap told c.in-Bad.is)
 
 pub step_spec : {M : Type 1} → statement M
 step_spec =

@@ -8,53 +8,53 @@ use Rattle.powers.proofs.OddPowers.{stored, stored_first, stored_next}
 use Rattle.powers.proofs.store.Statement.{statement}
 use Rattle.powers.proofs.store.Tie as tie
 
-abbrev invariant_loop : tie.invariant_loop
+abbrev invariant_loop : tie.invariant-loop-e
 invariant_loop count modulus base powers₀ power₀ square e₀ powers power e = Storing (stored modulus base) count powers₀ powers power e
 
-abbrev decreases_loop : tie.decreases_loop
+abbrev decreases_loop : tie.decreases-loop-e
 decreases_loop count modulus base powers₀ power₀ square e₀ powers power e = count - e
 
-rem_power : tie.Need-nonzero-rem-power invariant_loop decreases_loop
-rem_power c = c.before.requires.0
+rem_power : tie.Need-nonzero_rem-power invariant_loop decreases_loop
+rem_power c = c.requires.0
 
-times_requires : tie.Need-times-requires invariant_loop decreases_loop
-times_requires c κs = c.before.requires.0
+times_requires : tie.Need-times-square-requires invariant_loop decreases_loop
+times_requires c κs = c.requires.0
 
-loop_holds : tie.Need-loop-init invariant_loop decreases_loop
+loop_holds : tie.Need-loop-e-init invariant_loop decreases_loop
 loop_holds c =
-    let a = c.before.before.args in
+    let a = c.args in
     stores_none (stored a.modulus a.base) a.count a.powers.now (stored_first a.modulus a.base)
 
-mul_powers : tie.Need-overflow-mul-powers invariant_loop decreases_loop
+mul_powers : tie.Need-offset_bounds-powers-e invariant_loop decreases_loop
 mul_powers c = omega arith
 
-slice_write_powers : tie.Need-slice-write-powers invariant_loop decreases_loop
+slice_write_powers : tie.Need-bounds-powers-e invariant_loop decreases_loop
 slice_write_powers c = omega arith
 
-times_requires_2 : tie.Need-times-requires-2 invariant_loop decreases_loop
-times_requires_2 c κs = c.before.before.before.before.requires.0
+times_requires_2 : tie.Need-times-power-requires invariant_loop decreases_loop
+times_requires_2 c κs = c.requires.0
 
-add_e : tie.Need-overflow-add-e invariant_loop decreases_loop
+add_e : tie.Need-overflow_add-e invariant_loop decreases_loop
 add_e c = omega arith
 
-loop_less : tie.Need-loop-smaller invariant_loop decreases_loop
+loop_less : tie.Need-loop-e-smaller invariant_loop decreases_loop
 loop_less c = omega arith
 
-loop_again : tie.Need-loop-preserved invariant_loop decreases_loop
+loop_again : tie.Need-loop-e-preserved invariant_loop decreases_loop
 loop_again c =
-    let a = c.before.before.before.before.before.args in
-    let l = c.before.before.loop in
-    stores_more (stored a.modulus a.base) a.count a.powers.now l.invariant c.before.loop-test.true (omega arith)
-    (c.times2.ensures ∙ stored_next a.modulus a.base l.e l.invariant.next_is c.before.before.before.times.ensures)
+    let a = c.args in
+    let l = c.loop-e in
+    stores_more (stored a.modulus a.base) a.count a.powers.now l.invariant c.loop-e-test.true (omega arith)
+    (c.times-power.ensures ∙ stored_next a.modulus a.base l.e l.invariant.next_is c.times-square.ensures)
 
-same_length : tie.Need-same-length invariant_loop decreases_loop
-same_length c = c.before.loop.invariant.filled.same_length
+same_length : tie.Need-shape_of-powers invariant_loop decreases_loop
+same_length c = c.loop-e.invariant.filled.same_length
 
 returns : tie.Need-returns invariant_loop decreases_loop
 unfolding powers_of
 returns c =
-    let a = c.before.before.before.before.args in
-    stores_all (stored a.modulus a.base) a.count a.powers.now c.before.loop.invariant (omega arith)
+    let a = c.args in
+    stores_all (stored a.modulus a.base) a.count a.powers.now c.loop-e.invariant (omega arith)
 
 pub store_spec : {M : Type 1} → statement M
 store_spec =

@@ -7,12 +7,12 @@ use Rattle.powers.proofs.OddPowers.{product_fits}
 use Rattle.powers.proofs.times.Statement.{statement}
 use Rattle.powers.proofs.times.Tie as tie
 
-mul_product : tie.Need-overflow-mul-product
+mul_product : tie.Need-overflow_mul-product
 mul_product c =
     let a = c.args in
     record { fits = product_fits {x = a.x} {y = a.y} {P = 4294967296} (omega arith) (omega arith) (omega arith) }
 
-cast_result : tie.Need-overflow-cast-result
+cast_result : tie.Need-overflow_cast-result-2
 cast_result c =
     let a = c.args in
     record { fits = omega (arith, mod-lt (a.x * a.y) c.requires) }

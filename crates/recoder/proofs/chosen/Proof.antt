@@ -15,122 +15,123 @@ use Rattle.width.specs.Widths.{Reaches}
 use Rattle.width.proofs.Widths.{known_wide, known_whole, known_bits, known_largest, known_bad, reached_bits, reached_largest, reached_pair, reached_none}
 use Rattle.recoder.specs.Judged.{Chooses, Chosen}
 use Rattle.recoder.proofs.chosen.Statement.{statement}
+use Rattle.recoder.proofs.chosen.Lts.{then-form-eq-MOF+else-set-ne-LEAST, else-form-eq-MOF}
 use Rattle.recoder.proofs.chosen.Tie as tie
 
-returns : tie.Need-returns
+returns : tie.Need-returns-then-form-lt-MOF
 unfolding Chooses
-returns c = ((λ z. omega arith), inl (refl, (inl c.if1.true, refl)))
+returns c = ((λ z. omega arith), inl (refl, (inl c.if-form-lt-MOF.true, refl)))
 
-returns_2 : tie.Need-returns-2
+returns_2 : tie.Need-returns-then-form-gt-CLOSEST_SMALLER
 unfolding Chooses
-returns_2 c = ((λ z. omega arith), inl (refl, (inr c.if2.true, refl)))
+returns_2 c = ((λ z. omega arith), inl (refl, (inr c.if-form-gt-CLOSEST_SMALLER.true, refl)))
 
-abbrev rules : (form : ℕ) → DigitSet → List Rule
-rules form s = form_rules form s.width ++ set_for form s.width s.largest
+abbrev judged_by : (form : ℕ) → DigitSet → List Rule
+judged_by form s = form_rules form s.width ++ set_for form s.width s.largest
 
 -- the function's entry, and that form and width are found to be such
-abbrev start : tie.Else2 → tie.Start
+abbrev start : tie.Else-form-gt-CLOSEST_SMALLER → tie.Start
 start c = c.before.before
 
-is_form : (c : tie.Else2) → let f = (start c).args.form in (f < 1) ⊎ (most_form < f) → ⊥
-is_form c = ⊎_elim (λ l. omega (arith, c.before.if1.false)) (λ l. omega (arith, c.if2.false))
+is_form : (c : tie.Else-form-gt-CLOSEST_SMALLER) → let f = (start c).args.form in (f < 1) ⊎ (most_form < f) → ⊥
+is_form c = ⊎_elim (λ l. omega (arith, c.if-form-lt-MOF.false)) (λ l. omega (arith, c.if-form-gt-CLOSEST_SMALLER.false))
 
-abbrev known : tie.Joined3 → tie.After-known
-known c = c.before.before.before.before
+abbrev known : tie.Joined-form-eq-MOF → tie.After-known
+known c = c.before.before
 
-abbrev set : tie.Joined3 → tie.Start
+abbrev set : tie.Joined-form-eq-MOF → tie.Start
 set c = start (known c).before
 
-narrow : (c : tie.Joined3) → (set c).args.form ≡ 1 → (set c).args.set.width ≡ 2
-narrow c e = ⊎_elim (λ x. x.2.left) (λ x. absurd (x.left e)) c.if3.branch
+narrow : (c : tie.Joined-form-eq-MOF) → (set c).args.form ≡ 1 → (set c).args.set.width ≡ 2
+narrow c e = elim c.if-form-eq-MOF.branch [ then-form-eq-MOF+else-set-ne-LEAST w ↦ w.if-set-ne-LEAST.false | else-form-eq-MOF w ↦ absurd (w.if-form-eq-MOF.false e) ]
 
-is_width : (c : tie.Joined3) → let a = (set c).args in (((a.set.width < 2) ⊎ (8 < a.set.width)) ⊎ ((a.form ≡ 1) × (a.set.width ≢ 2))) → ⊥
+is_width : (c : tie.Joined-form-eq-MOF) → let a = (set c).args in (((a.set.width < 2) ⊎ (8 < a.set.width)) ⊎ ((a.form ≡ 1) × (a.set.width ≢ 2))) → ⊥
 is_width c =
-    let wide = known_wide _ (known c).known.ensures c.before.before.whole.given.1 in
+    let wide = known_wide _ (known c).known.ensures c.in-As.is in
     ⊎_elim (⊎_elim (λ l. omega (arith, wide)) (λ l. omega (arith, wide))) (λ l. l.1 (narrow c l.0))
 
-returns_3 : tie.Need-returns-3
+returns_3 : tie.Need-returns-in_default
 unfolding Chooses
 returns_3 c =
-    let k = c.before.before in
+    let k = c.before in
     let a = (start k.before).args in
-    ((λ z. omega arith), first_at (rules a.form a.set) 1 0 (is_form k.before, (inl (known_bad _ k.known.ensures c.enum_told.given.1), refl)))
+    ((λ z. omega arith), first_at (judged_by a.form a.set) 1 0 (is_form k.before, (inl (known_bad _ k.known.ensures c.in_default.is), refl)))
 
-returns_4 : tie.Need-returns-4
+returns_4 : tie.Need-returns-then-set-ne-LEAST
 unfolding Chooses
 returns_4 c =
-    let k = c.before.before.before.before.before.before in
+    let k = c.before.before.before.before in
     let a = (start k.before).args in
-    ((λ z. omega arith), first_at (rules a.form a.set) 1 0 (is_form k.before, (inr (c.before.before.if3.true, c.if4.true), refl)))
+    ((λ z. omega arith), first_at (judged_by a.form a.set) 1 0 (is_form k.before, (inr (c.if-form-eq-MOF.true, c.if-set-ne-LEAST.true), refl)))
 
 reaching_requires : tie.Need-reaching-requires
-reaching_requires c κs = known_whole _ (known c).known.ensures c.before.before.whole.given.1
+reaching_requires c κs = known_whole _ (known c).known.ensures c.in-As.is
 
 -- the width that was found has the set's bits, and with them its largest digit
-abbrev from : tie.After-reaching → tie.Joined3
+abbrev from : tie.After-reaching → tie.Joined-form-eq-MOF
 from r = r.before
 
-bits : (j : tie.Joined3) → j.before.before.whole.given.0.0.bits ≡ (set j).args.set.width
-bits j = known_bits _ (known j).known.ensures j.before.before.whole.given.1
+bits : (j : tie.Joined-form-eq-MOF) → j.in-As.whole.bits ≡ (set j).args.set.width
+bits j = known_bits _ (known j).known.ensures j.in-As.is
 
 reaches : (r : tie.After-reaching) → let s = (set (from r)).args.set in Reaches s.width s.largest r.reaching.result
 reaches r = rw (bits (from r)) at r.reaching.ensures
 
-returns_5 : tie.Need-returns-5
+returns_5 : tie.Need-returns-in_default-reaching
 unfolding Chooses
 returns_5 c =
-    let r = c.before.before in
+    let r = c.before in
     let j = from r in
     let a = (set j).args in
-    ((λ z. omega arith), first_at (rules a.form a.set) 2 0 (is_form (known j).before, (is_width j, (inl (reached_none _ _ (reaches r) c.enum-told2.given.1), refl))))
+    ((λ z. omega arith), first_at (judged_by a.form a.set) 2 0 (is_form (known j).before, (is_width j, (inl (reached_none _ _ (reaches r) c.in_default-reaching.is), refl))))
 
 -- a set in which the form is
-chosen : (w : tie.After-w) → let r = w.before.before in let a = (set (from r)).args in (a.form ≢ 2 → a.set.largest ≡ largest a.set.width) → Chosen a.form a.set.width a.set.largest w.w.given.0.0
+chosen : (w : tie.In-As-reaching) → let r = w.before in let a = (set (from r)).args in (a.form ≢ 2 → a.set.largest ≡ largest a.set.width) → Chosen a.form a.set.width a.set.largest w.in-As-reaching.w
 chosen w whole =
-    let r = w.before.before in
+    let r = w.before in
     let j = from r in
     let k = (known j).before in
     record {
-      bits_is = reached_bits _ _ (reaches r) w.w.given.1;
-      largest_is = reached_largest _ _ (reaches r) w.w.given.1;
+      bits_is = reached_bits _ _ (reaches r) w.in-As-reaching.is;
+      largest_is = reached_largest _ _ (reaches r) w.in-As-reaching.is;
       allowed = record {
-        least = omega (arith, k.before.if1.left);
-        most = omega (arith, k.if2.left);
-        pair = reached_pair _ _ (reaches r) w.w.given.1;
+        least = omega (arith, k.if-form-lt-MOF.false);
+        most = omega (arith, k.if-form-gt-CLOSEST_SMALLER.false);
+        pair = reached_pair _ _ (reaches r) w.in-As-reaching.is;
         narrow = narrow j;
         whole = whole;
       };
     }
 
-returns_6 : tie.Need-returns-6
+returns_6 : tie.Need-returns-then-form-eq-WNAF
 unfolding Chooses
-returns_6 c = chosen c.before.before (λ n. absurd (n c.if5.true))
+returns_6 c = chosen c.before (λ n. absurd (n c.if-form-eq-WNAF.true))
 
 -- the largest digits are compared
-compared : (l : tie.After-largest2)
-    → let e = l.before.before in let j = from e.before.before.before.before in (l.before.largest.result ≡ (set j).args.set.largest) × (l.largest2.result ≡ largest (set j).args.set.width)
+compared : (l : tie.After-largest-2)
+    → let e = l.before.before in let j = from e.before.before in (l.largest.result ≡ (set j).args.set.largest) × (l.largest-2.result ≡ largest (set j).args.set.width)
 compared l =
-    let w = l.before.before.before.before in
-    let r = w.before.before in
+    let w = l.before.before.before in
+    let r = w.before in
     let j = from r in
-    (l.before.largest.ensures ∙ reached_largest _ _ (reaches r) w.w.given.1, l.largest2.ensures ∙ known_largest _ (known j).known.ensures j.before.before.whole.given.1)
+    (l.largest.ensures ∙ reached_largest _ _ (reaches r) w.in-As-reaching.is, l.largest-2.ensures ∙ known_largest _ (known j).known.ensures j.in-As.is)
 
-returns_7 : tie.Need-returns-7
+returns_7 : tie.Need-returns-then-largest
 unfolding Chooses
 returns_7 c =
     let l = c.before in
     let e = l.before.before in
-    let j = from e.before.before.before.before in
+    let j = from e.before.before in
     let a = (set j).args in
     let (x, y) = compared l in
-    ((λ z. omega arith), first_at (rules a.form a.set) 2 0 (is_form (known j).before, (is_width j, (inr (e.if5.false, λ z. c.if6.true (x ∙ z ∙ sym y)), refl))))
+    ((λ z. omega arith), first_at (judged_by a.form a.set) 2 0 (is_form (known j).before, (is_width j, (inr (e.if-form-eq-WNAF.false, λ z. c.if-largest.true (x ∙ z ∙ sym y)), refl))))
 
-returns_8 : tie.Need-returns-8
+returns_8 : tie.Need-returns
 unfolding Chooses
 returns_8 c =
     let l = c.before in
     let (x, y) = compared l in
-    chosen l.before.before.before.before (λ _. sym x ∙ c.if6.false ∙ y)
+    chosen l.before.before.before (λ _. sym x ∙ c.if-largest.false ∙ y)
 
 pub chosen_spec : {M : Type 1} → statement M
 chosen_spec =

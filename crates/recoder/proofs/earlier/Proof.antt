@@ -10,23 +10,23 @@ use Rattle.recoder.proofs.Refusals.{is_form, is_width, is_set}
 use Rattle.recoder.proofs.earlier.Statement.{statement}
 use Rattle.recoder.proofs.earlier.Tie as tie
 
-returns : tie.Need-returns
+returns : tie.Need-returns-in-Refused
 unfolding Admits
 returns c =
-    let j = c.before.before.before in
-    let a = j.before.before.args in
-    let J = subst (λ r. Admits a.form a.set.width a.set.largest a.s.now 18446744073709551615 18446744073709551615 r) c.before.judged.given.1 j.judge.ensures in
+    let j = c in
+    let a = j.args in
+    let J = subst (λ r. Admits a.form a.set.width a.set.largest a.s.now 18446744073709551615 18446744073709551615 r) c.in-Refused.is j.judge-judged.ensures in
     record { some = J.0; first = λ places words. Laws.earlier a.number a.form a.set.width a.set.largest a.s.now (lit≤ tt) J.0 J.1 }
 
-returns_2 : tie.Need-returns-2
+returns_2 : tie.Need-returns-in-Goes
 unfolding Admits
 returns_2 c =
-    let j = c.before.before in
-    let a = j.before.before.args in
-    let A = subst (λ r. Admits a.form a.set.width a.set.largest a.s.now 18446744073709551615 18446744073709551615 r) c.enum_told.given.1 j.judge.ensures in
+    let j = c in
+    let a = j.args in
+    let A = subst (λ r. Admits a.form a.set.width a.set.largest a.s.now 18446744073709551615 18446744073709551615 r) c.in-Goes.is j.judge-judged.ensures in
     record {
-      some = j.before.before.requires;
-      first = λ places words. inr (is_form a.form a.set.width a.set.largest A.chosen.allowed, inr (is_width a.form a.set.width a.set.largest A.chosen.allowed, inr (is_set a.form a.set.width a.set.largest A.chosen.allowed, inr ((λ h. omega (arith, h, A.short)), inl (refl, (j.before.before.requires, refl))))));
+      some = j.requires;
+      first = λ places words. inr (is_form a.form a.set.width a.set.largest A.chosen.allowed, inr (is_width a.form a.set.width a.set.largest A.chosen.allowed, inr (is_set a.form a.set.width a.set.largest A.chosen.allowed, inr ((λ h. omega (arith, h, A.short)), inl (refl, (j.requires, refl))))));
     }
 
 pub earlier_spec : {M : Type 1} → statement M

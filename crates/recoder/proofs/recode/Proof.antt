@@ -9,10 +9,10 @@ use Rattle.recoder.proofs.recode.Tie as tie
 
 returns : tie.Need-returns
 returns c =
-    let r = c.before.before.before in
-    let k = r.before.before.before in
-    let o : order_of k.code_of_lem.result ≡ ordered k.before.before.before.args.order = ap order_of k.code_of_lem.ensures ∙ code_tells (ordered k.before.before.before.args.order) in
-    rw o at r.recode-by.ensures
+    let r = c in
+    let k = r in
+    let o : order_of k.code_of.result ≡ ordered k.args.order = ap order_of k.code_of.ensures ∙ code_tells (ordered k.args.order) in
+    rw o at r.recode_by.ensures
 
 pub recode_spec : {M : Type 1} → statement M
 recode_spec = tie.close (tie.spec (λ c κs. search rules) (λ c κs. search rules) (λ c. search rules) (λ c. search rules) returns)

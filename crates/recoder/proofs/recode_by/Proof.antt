@@ -11,31 +11,31 @@ use Rattle.recoder.proofs.recode_by.Statement.{statement}
 use Rattle.recoder.proofs.recode_by.Tie as tie
 
 -- what the judgement says where the call goes on
-abbrev start : tie.After-known-told2 → tie.Start
-start c = c.before.before.before.before.before.before
+abbrev start : tie.In-Goes → tie.Start
+start c = c.before.before.before.before
 
-admitted : (c : tie.After-known-told2) → let a = (start c).args in Admitted a.form a.set.width a.set.largest a.s.now (length a.digits.now) (length a.marks.now) c.before.judged2.given.0.0
+admitted : (c : tie.In-Goes) → let a = (start c).args in Admitted a.form a.set.width a.set.largest a.s.now (length a.digits.now) (length a.marks.now) c.in-Goes.w
 unfolding Admits
 admitted c =
     let a = (start c).args in
-    subst (λ r. Admits a.form a.set.width a.set.largest a.s.now (length a.digits.now) (length a.marks.now) r) c.before.judged2.given.1 c.before.before.before.judge.ensures
+    subst (λ r. Admits a.form a.set.width a.set.largest a.s.now (length a.digits.now) (length a.marks.now) r) c.in-Goes.is c.judge-judged.ensures
 
-mul_places : tie.Need-overflow-mul-places
+mul_places : tie.Need-overflow_mul-places
 mul_places c = omega (arith, (admitted c).short)
 
-add_places : tie.Need-overflow-add-places
+add_places : tie.Need-overflow_add-places
 add_places c = omega (arith, (admitted c).short)
 
-slice_relend_prefix_fill : tie.Need-slice-relend-prefix-fill
+slice_relend_prefix_fill : tie.Need-slice_bounds-fill-end
 slice_relend_prefix_fill c = (admitted c).room
 
-slice_aggregate_fill : tie.Need-slice-aggregate-fill
+slice_aggregate_fill : tie.Need-slice_bounds-fill-end-in-Goes
 slice_aggregate_fill c = sym (length-take-le _ _ (admitted c.before).room)
 
-slice_relend_prefix_fill_2 : tie.Need-slice-relend-prefix-fill-2
+slice_relend_prefix_fill_2 : tie.Need-slice_bounds-fill-end-in-Goes-2
 slice_relend_prefix_fill_2 c = (admitted c.before).marks
 
-slice_aggregate_fill_2 : tie.Need-slice-aggregate-fill-2
+slice_aggregate_fill_2 : tie.Need-slice_bounds-fill-end-in-Goes-3
 slice_aggregate_fill_2 c = sym (length-take-le 9 (start c.before.before).args.marks.now (admitted c.before.before).marks)
 
 fill_requires : tie.Need-fill-requires
@@ -43,18 +43,18 @@ fill_requires c κs =
     let A = admitted c.before.before in
     (allowed_in A.chosen, (A.short, (length-take-le _ _ A.room, length-take-le 9 (start c.before.before).args.marks.now A.marks)))
 
-returns : tie.Need-returns
+returns : tie.Need-returns-in-Refused
 unfolding Admits
 returns c =
-    let a = c.before.before.before.before.before.before.args in
-    let J = subst (λ r. Admits a.form a.set.width a.set.largest a.s.now (length a.digits.now) (length a.marks.now) r) c.before.judged.given.1 c.before.before.before.judge.ensures in
+    let a = c.args in
+    let J = subst (λ r. Admits a.form a.set.width a.set.largest a.s.now (length a.digits.now) (length a.marks.now) r) c.in-Refused.is c.judge-judged.ensures in
     record {
       first = J.1;
       accepted = λ e. absurd (J.0 e);
       refused = λ n. record { digits_are = refl; marks_are = refl; weight_is = refl; top_is = refl };
     }
 
-returns_2 : tie.Need-returns-2
+returns_2 : tie.Need-returns-in-Goes
 returns_2 c =
     let f = c.before.before.before in
     let k = f.before.before.before in
@@ -64,7 +64,7 @@ returns_2 c =
     record {
       first = rw (W.accepted, W.no_place) A.first;
       accepted = λ e. record {
-        string = f.fill.new.1.1.1.1.0;
+        string = f.fill.new.digits;
         formed = formed_in A.chosen _ _ _ W.formed;
         digits_are = refl;
         marks_are = ap (λ x. x ++ drop 9 a.marks.now) W.marks_are;

@@ -12,29 +12,29 @@ use borrow.Author.Rules.{rules}
 use Rattle.requests.proofs.malformed.Statement.{statement}
 use Rattle.requests.proofs.malformed.Tie as tie
 
-returns : tie.Need-returns
-returns c = sym (short _ c.if1.true)
+returns : tie.Need-returns-then-line
+returns c = sym (short _ c.if-line.true)
 
-returns_2 : tie.Need-returns-2
-returns_2 c = sym (long c.before.before.before.args.line.now (omega arith))
+returns_2 : tie.Need-returns-then-line-gt-MOST_CHARACTERS
+returns_2 c = sym (long c.args.line.now (omega arith))
 
-returns_3 : tie.Need-returns-3
-returns_3 c = sym (odd _ c.if3.true)
+returns_3 : tie.Need-returns-then-line-eq1
+returns_3 c = sym (odd _ c.if-line-eq1.true)
 
-byte_requires : tie.Need-byte-requires
+byte_requires : tie.Need-byte-stated-requires
 byte_requires c κs =
-    let line = c.before.before.before.before.before.before.before.before.args.line.now in
-    let all : T (all_hex line) = subst T (sym c.before.before.if4.true ∙ c.before.before.before.all-hex.ensures) tt in
+    let line = c.args.line.now in
+    let all : T (all_hex line) = subst T (sym c.if-all_hex.true ∙ c.all_hex.ensures) tt in
     (hex_at line all 4 (omega arith), hex_at line all 5 (omega arith))
 
-returns_4 : tie.Need-returns-4
+returns_4 : tie.Need-returns-then-all_hex
 returns_4 c =
-    let line = c.before.before.before.before.before.before.before.before.before.args.line.now in
-    let all : all_hex line ≡ true = sym c.before.before.before.before.all-hex.ensures ∙ c.before.before.before.if4.true in
-    ap (λ n. not (eqb (length line / 2) (3 + n))) c.byte.ensures ∙ sym (stated line (omega arith) (omega arith) c.before.before.before.before.before.if3.false all)
+    let line = c.args.line.now in
+    let all : all_hex line ≡ true = sym c.all_hex.ensures ∙ c.if-all_hex.true in
+    ap (λ n. not (eqb (length line / 2) (3 + n))) c.byte-stated.ensures ∙ sym (stated line (omega arith) (omega arith) c.if-line-eq1.false all)
 
-returns_5 : tie.Need-returns-5
-returns_5 c = sym (strange _ (sym c.before.all-hex.ensures ∙ c.if4.false))
+returns_5 : tie.Need-returns
+returns_5 c = sym (strange _ (sym c.all_hex.ensures ∙ c.if-all_hex.false))
 
 pub malformed_spec : {M : Type 1} → statement M
 malformed_spec =

@@ -6,9 +6,9 @@ use Rattle.requests.proofs.recode.Tie as tie
 
 returns : tie.Need-returns
 returns c =
-    let r = c.before.before.before in
-    let w = r.before.before.before in
-    let a = w.before.before.before.args in
+    let r = c in
+    let w = r in
+    let a = w.args in
     (recode_whole a.width w.whole.result.largest (λ l h. w.whole.ensures.largest_is (l, h)) a.form _ _ _ _ _ _ _).0 (rw w.whole.ensures.width_is at r.recode.ensures)
 
 pub recode_spec : {M : Type 1} → statement M

@@ -6,10 +6,10 @@ use Rattle.rows.specs.Reading.{byte_at}
 use Rattle.rows.proofs.entry.Statement.{statement}
 use Rattle.rows.proofs.entry.Tie as tie
 
-sub_result : tie.Need-overflow-sub-result
+sub_result : tie.Need-overflow_sub-result
 sub_result c = lower_fits (byte_at c.args.word c.args.column) (omega arith)
 
-cast_result_3 : tie.Need-overflow-cast-result-3
+cast_result_3 : tie.Need-overflow_cast-result-3
 cast_result_3 c = lower_small (byte_at c.args.word c.args.column) (omega arith)
 
 returns : tie.Need-returns

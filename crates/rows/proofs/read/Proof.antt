@@ -12,24 +12,24 @@ use Rattle.rows.proofs.read.Statement.{statement}
 use Rattle.rows.proofs.read.Tie as tie
 
 -- k as it is taken out, and as it is read from the machine
-taken : (c : tie.After-entry2) → c.entry2.result ≡ twos_of c.before.before.before.before.args.at
-taken c = row_entry twos_of c.before.before.before.before.args.at _ c.entry2.result c.before.before.twos-row.ensures c.entry2.ensures
+taken : (c : tie.After-entry-2) → c.entry-2.result ≡ twos_of c.args.at
+taken c = row_entry twos_of c.args.at _ c.entry-2.result c.twos_row-twos.ensures c.entry-2.ensures
 
-read : (c : tie.After-entry2) → to_z w8 (of_z w8 c.entry2.result) ≡ twos_of c.before.before.before.before.args.at
-read c = to_z-of_z {w = w8} (record { sfits = c.entry2.type-inv }) ∙ taken c
+read : (c : tie.After-entry-2) → to_z w8 (of_z w8 c.entry-2.result) ≡ twos_of c.args.at
+read c = to_z-of_z {w = w8} (record { sfits = c.entry-2.type_inv }) ∙ taken c
 
-cast_t8 : tie.Need-overflow-cast-t8
+cast_t8 : tie.Need-overflow_cast-result
 unfolding twos_of
 cast_t8 c =
-    let small = rw (taken c) at c.entry2.type-inv in
+    let small = rw (taken c) at c.entry-2.type_inv in
     rw (read c) (tt, record { fits = omega (arith, small) })
 
 returns : tie.Need-returns
 unfolding twos_of
 returns c =
-    let at = c.before.before.before.before.args.at in
+    let at = c.args.at in
     record {
-      unit_is = to_z-of_z {w = w8} (record { sfits = c.before.entry.type-inv }) ∙ row_entry unit_of at _ c.before.entry.result c.before.before.before.units_row.ensures c.before.entry.ensures;
+      unit_is = to_z-of_z {w = w8} (record { sfits = c.entry.type_inv }) ∙ row_entry unit_of at _ c.entry.result c.units_row-units.ensures c.entry.ensures;
       twos_is = ap (λ z. pos (nat_abs z)) (read c);
     }
 

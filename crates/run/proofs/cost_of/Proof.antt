@@ -6,11 +6,11 @@ use borrow.Author.Rules.{rules}
 use Rattle.run.proofs.cost_of.Statement.{statement}
 use Rattle.run.proofs.cost_of.Tie as tie
 
-returns : tie.Need-returns
-returns c = let (d, n) = cost_one c.before.args.count (omega (arith, c.if1.true)) in (sym d, sym n)
+returns : tie.Need-returns-then-count-lt2
+returns c = let (d, n) = cost_one c.args.count (omega (arith, c.if-count-lt2.true)) in (sym d, sym n)
 
-returns_2 : tie.Need-returns-2
-returns_2 c = let (d, n) = cost_more c.before.args.count (omega (arith, c.if1.false)) in (sym d, sym n)
+returns_2 : tie.Need-returns
+returns_2 c = let (d, n) = cost_more c.args.count (omega (arith, c.if-count-lt2.false)) in (sym d, sym n)
 
 pub cost_of_spec : {M : Type 1} → statement M
 cost_of_spec = tie.close (tie.spec returns (λ c. search rules) (λ c. search rules) returns_2)

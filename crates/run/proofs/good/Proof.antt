@@ -5,45 +5,45 @@ use borrow.Author.Rules.{rules}
 use Rattle.run.proofs.good.Statement.{statement}
 use Rattle.run.proofs.good.Tie as tie
 
-returns : tie.Need-returns
+returns : tie.Need-returns-in-Double
 returns c =
-    let d = c.before.before in
-    let a = d.before.args in
-    judged_double a.count a.index a.word d.before.requires (says a.word d.decode.ensures c.enum_told.given.1)
+    let d = c in
+    let a = d.args in
+    judged_double a.count a.index a.word d.requires (says a.word d.decode.ensures c.in-Double.is)
 
-returns_2 : tie.Need-returns-2
+returns_2 : tie.Need-returns-then-index-eq0
 returns_2 c =
-    let k = c.before.before.before in
-    let d = k.before.before in
-    let a = d.before.args in
-    judged_load a.count a.index a.word (side k.m.given.0.0.sign) k.m.given.0.0.entry (says a.word d.decode.ensures k.m.given.1) c.before.if1.true c.held.ensures
+    let k = c in
+    let d = k in
+    let a = d.args in
+    judged_load a.count a.index a.word (side k.in-Load.m.sign) k.in-Load.m.entry (says a.word d.decode.ensures k.in-Load.is) c.if-index-eq0.true c.held.ensures
 
-returns_3 : tie.Need-returns-3
+returns_3 : tie.Need-returns-else-index-eq0
 returns_3 c =
-    let k = c.before.before in
-    let d = k.before.before in
-    let a = d.before.args in
-    judged_late a.count a.index a.word (side k.m.given.0.0.sign) k.m.given.0.0.entry (says a.word d.decode.ensures k.m.given.1) c.if1.false
+    let k = c in
+    let d = k in
+    let a = d.args in
+    judged_late a.count a.index a.word (side k.in-Load.m.sign) k.in-Load.m.entry (says a.word d.decode.ensures k.in-Load.is) c.if-index-eq0.false
 
-returns_4 : tie.Need-returns-4
+returns_4 : tie.Need-returns-then-index-ne0
 returns_4 c =
-    let k = c.before.before.before in
-    let d = k.before.before in
-    let a = d.before.args in
-    judged_add a.count a.index a.word (side k.m2.given.0.0.sign) k.m2.given.0.0.entry (says a.word d.decode.ensures k.m2.given.1) c.before.if2.true c.held2.ensures
+    let k = c in
+    let d = k in
+    let a = d.args in
+    judged_add a.count a.index a.word (side k.in-Add.m.sign) k.in-Add.m.entry (says a.word d.decode.ensures k.in-Add.is) c.if-index-ne0.true c.held-then-index-ne0.ensures
 
-returns_5 : tie.Need-returns-5
+returns_5 : tie.Need-returns-else-index-ne0
 returns_5 c =
-    let k = c.before.before in
-    let d = k.before.before in
-    let a = d.before.args in
-    judged_early a.count a.index a.word (side k.m2.given.0.0.sign) k.m2.given.0.0.entry (says a.word d.decode.ensures k.m2.given.1) c.if2.false
+    let k = c in
+    let d = k in
+    let a = d.args in
+    judged_early a.count a.index a.word (side k.in-Add.m.sign) k.in-Add.m.entry (says a.word d.decode.ensures k.in-Add.is) c.if-index-ne0.false
 
-returns_6 : tie.Need-returns-6
+returns_6 : tie.Need-returns-in-Bad
 returns_6 c =
-    let d = c.before.before in
-    let a = d.before.args in
-    judged_bad a.count a.index a.word (says a.word d.decode.ensures c.enum-told2.given.1)
+    let d = c in
+    let a = d.args in
+    judged_bad a.count a.index a.word (says a.word d.decode.ensures c.in-Bad.is)
 
 pub good_spec : {M : Type 1} → statement M
 good_spec =

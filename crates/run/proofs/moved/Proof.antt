@@ -8,16 +8,16 @@ use borrow.Author.Rules.{rules}
 use Rattle.run.proofs.moved.Statement.{statement}
 use Rattle.run.proofs.moved.Tie as tie
 
-returns : tie.Need-returns
+returns : tie.Need-returns-in-Plus
 returns c =
-    let a = c.before.before.before.before.before.before.args in
-    c.plus.ensures ∙ sym (ap (λ s. (a.x + table_of a.modulus a.multiples.now (side s) a.step.entry) % a.modulus) c.before.enum_told.given.1)
+    let a = c.args in
+    c.plus.ensures ∙ sym (ap (λ s. (a.x + table_of a.modulus a.multiples.now (side s) a.step.entry) % a.modulus) c.in-Plus.is)
 
-returns_2 : tie.Need-returns-2
+returns_2 : tie.Need-returns-in-Minus
 returns_2 c =
-    let a = c.before.before.before.before.before.before.args in
-    c.plus2.ensures ∙ less_is a.modulus a.multiples.now a.x a.step.entry
-    ∙ sym (ap (λ s. (a.x + table_of a.modulus a.multiples.now (side s) a.step.entry) % a.modulus) c.before.enum-told2.given.1)
+    let a = c.args in
+    c.plus-in-Minus.ensures ∙ less_is a.modulus a.multiples.now a.x a.step.entry
+    ∙ sym (ap (λ s. (a.x + table_of a.modulus a.multiples.now (side s) a.step.entry) % a.modulus) c.in-Minus.is)
 
 pub moved_spec : {M : Type 1} → statement M
 moved_spec =

@@ -13,56 +13,56 @@ use Rattle.run.proofs.step.Tie as tie
 
 moved_requires : tie.Need-moved-requires
 moved_requires c κs =
-    let d = c.before.before.before in
-    let s = d.before.before in
-    let k = c.before.m.given.0.0 in
-    let h = held_move s.args.modulus s.args.multiples.now s.args.word s.requires.1 k.entry (says s.args.word d.decode.ensures c.before.m.given.1).1 in
+    let d = c in
+    let s = d in
+    let k = c.in-Load.m in
+    let h = held_move s.args.modulus s.args.multiples.now s.args.word s.requires.1 k.entry (says s.args.word d.decode.ensures c.in-Load.is).1 in
     (omega (arith, s.requires.0.reduced), h.0, h.1)
 
-moved_requires_2 : tie.Need-moved-requires-2
+moved_requires_2 : tie.Need-moved-requires-in-Add
 moved_requires_2 c κs =
-    let d = c.before.before.before in
-    let s = d.before.before in
-    let k = c.before.m2.given.0.0 in
-    let h = held_move s.args.modulus s.args.multiples.now s.args.word s.requires.1 k.entry (says s.args.word d.decode.ensures c.before.m2.given.1).1 in
+    let d = c in
+    let s = d in
+    let k = c.in-Add.m in
+    let h = held_move s.args.modulus s.args.multiples.now s.args.word s.requires.1 k.entry (says s.args.word d.decode.ensures c.in-Add.is).1 in
     (s.requires.0.reduced, h.0, h.1)
 
-returns : tie.Need-returns
+returns : tie.Need-returns-in-Double
 returns c =
-    let t = c.before.before in
-    let d = t.before.before in
-    let a = d.before.before.args in
+    let t = c in
+    let d = t in
+    let a = d.args in
     steps_double (residues a.modulus) (table_of a.modulus a.multiples.now) a.word a.state.value a.state.doublings a.state.additions
-    (sym d.decode.ensures ∙ ap told t.enum_told.given.1) c.before.plus.ensures
+    (sym d.decode.ensures ∙ ap told t.in-Double.is) c.plus.ensures
 
-returns_2 : tie.Need-returns-2
+returns_2 : tie.Need-returns-in-Load
 returns_2 c =
-    let k = c.before.before in
-    let d = k.before.before in
-    let s = d.before.before in
+    let k = c in
+    let d = k in
+    let s = d in
     let a = s.args in
-    let m = k.m.given.0.0 in
-    let y = says a.word d.decode.ensures k.m.given.1 in
+    let m = k.in-Load.m in
+    let y = says a.word d.decode.ensures k.in-Load.is in
     let h = held_move a.modulus a.multiples.now a.word s.requires.1 m.entry y.1 in
     steps_load (residues a.modulus) (table_of a.modulus a.multiples.now) a.word a.state.value a.state.doublings a.state.additions
-    (side m.sign) m.entry (sym d.decode.ensures ∙ ap told k.m.given.1) (c.moved.ensures ∙ load_is a.modulus a.multiples.now (side m.sign) m.entry h.1)
+    (side m.sign) m.entry (sym d.decode.ensures ∙ ap told k.in-Load.is) (c.moved.ensures ∙ load_is a.modulus a.multiples.now (side m.sign) m.entry h.1)
 
-returns_3 : tie.Need-returns-3
+returns_3 : tie.Need-returns-in-Add
 returns_3 c =
-    let k = c.before.before.before in
-    let d = k.before.before in
-    let a = d.before.before.args in
-    let m = k.m2.given.0.0 in
+    let k = c in
+    let d = k in
+    let a = d.args in
+    let m = k.in-Add.m in
     steps_add (residues a.modulus) (table_of a.modulus a.multiples.now) a.word a.state.value a.state.doublings a.state.additions
-    (side m.sign) m.entry (sym d.decode.ensures ∙ ap told k.m2.given.1) c.before.moved2.ensures
+    (side m.sign) m.entry (sym d.decode.ensures ∙ ap told k.in-Add.is) c.moved-in-Add.ensures
 
-returns_4 : tie.Need-returns-4
+returns_4 : tie.Need-returns-in-Bad
 returns_4 c =
-    let d = c.before.before in
-    let s = d.before.before in
+    let d = c in
+    let s = d in
     let a = s.args in
     steps_bad (residues a.modulus) (table_of a.modulus a.multiples.now) a.word a.state.value a.state.doublings a.state.additions
-    s.requires.1.double (sym d.decode.ensures ∙ ap told c.enum-told2.given.1)
+    s.requires.1.double (sym d.decode.ensures ∙ ap told c.in-Bad.is)
 
 pub step_spec : {M : Type 1} → statement M
 step_spec =

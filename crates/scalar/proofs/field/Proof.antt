@@ -12,17 +12,17 @@ use Rattle.scalar.proofs.field.Statement.{statement}
 use Rattle.scalar.proofs.field.Tie as tie
 
 -- the bits are cut off by their power of two
-power : (c : tie.After-pair) → 1 * 2 ^ c.before.before.args.count % 2 ^ 32 ≡ 2 ^ c.before.before.args.count
-power c = let k = c.before.before.args.count in shl_exact 1 k 32 (lit< tt) (omega arith) ∙ one-mul (2 ^ k)
+power : (c : tie.After-pair) → 1 * 2 ^ c.args.count % 2 ^ 32 ≡ 2 ^ c.args.count
+power c = let k = c.args.count in shl_exact 1 k 32 (lit< tt) (omega arith) ∙ one-mul (2 ^ k)
 
-rem_result : tie.Need-nonzero-rem-result
-rem_result c = rw (power c) (pow_pos c.before.before.args.count)
+rem_result : tie.Need-nonzero_rem-result-2
+rem_result c = rw (power c) (pow_pos c.args.count)
 
 returns : tie.Need-returns
 returns c =
-    let a = c.before.before.args in
+    let a = c.args in
     rw (power c, c.pair.ensures)
-    (field_is (number (order_of a.order) a.s.now) a.i a.count c.before.before.requires)
+    (field_is (number (order_of a.order) a.s.now) a.i a.count c.requires)
 
 pub field_spec : {M : Type 1} → statement M
 field_spec =

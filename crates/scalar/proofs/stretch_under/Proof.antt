@@ -9,8 +9,8 @@ returns : tie.Need-returns
 returns c =
     let k = c.before in
     let f = k.before in
-    let a = f.before.before.args in
-    rw k.stretch.ensures (stretch_under_is (number (order_of a.order) a.s.now) a.i a.w f.under.result c.under2.result f.before.before.requires.0 f.under.ensures c.under2.ensures)
+    let a = f.args in
+    rw k.stretch.ensures (stretch_under_is (number (order_of a.order) a.s.now) a.i a.w f.under.result c.under-2.result f.requires.0 f.under.ensures c.under-2.ensures)
 
 pub stretch_under_spec : {M : Type 1} → statement M
 stretch_under_spec = tie.close (tie.spec (λ c κs. search rules) (λ c κs. search rules) (λ c κs. search rules) (λ c. search rules) returns)

@@ -7,15 +7,15 @@ use Rattle.scalar.proofs.Fields.{window_over, window_under}
 use Rattle.scalar.proofs.window.Statement.{statement}
 use Rattle.scalar.proofs.window.Tie as tie
 
-returns : tie.Need-returns
+returns : tie.Need-returns-then-span-i
 returns c =
-    let a = c.before.before.before.args in
-    c.field.ensures ∙ window_over (number (order_of a.order) a.s.now) a.i a.w c.before.if1.true
+    let a = c.args in
+    c.field.ensures ∙ window_over (number (order_of a.order) a.s.now) a.i a.w c.if-span-i.true
 
-returns_2 : tie.Need-returns-2
+returns_2 : tie.Need-returns
 returns_2 c =
-    let a = c.before.before.before.args in
-    rw c.field2.ensures (window_under (number (order_of a.order) a.s.now) a.i a.w 32 c.before.if1.false (omega arith))
+    let a = c.args in
+    rw c.field-2.ensures (window_under (number (order_of a.order) a.s.now) a.i a.w 32 c.if-span-i.false (omega arith))
 
 pub window_spec : {M : Type 1} → statement M
 window_spec =

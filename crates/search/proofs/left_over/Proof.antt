@@ -5,17 +5,17 @@ use Rattle.search.proofs.Order.{left_even, left_odd}
 use Rattle.search.proofs.left_over.Statement.{statement}
 use Rattle.search.proofs.left_over.Tie as tie
 
-returns : tie.Need-returns
-returns c = omega (arith, left_even c.before.args.size c.before.args.i (omega arith))
+returns : tie.Need-returns-then-i-eq0
+returns c = omega (arith, left_even c.args.size c.args.i (omega arith))
 
-returns_2 : tie.Need-returns-2
-returns_2 c = omega (arith, left_even c.before.before.args.size c.before.before.args.i (omega arith))
+returns_2 : tie.Need-returns-then-i-eq0-2
+returns_2 c = omega (arith, left_even c.args.size c.args.i (omega arith))
 
-returns_3 : tie.Need-returns-3
-returns_3 c = omega (arith, left_odd c.before.before.before.args.size c.before.before.before.args.i (omega arith))
+returns_3 : tie.Need-returns-then-size-i
+returns_3 c = omega (arith, left_odd c.args.size c.args.i (omega arith))
 
-returns_4 : tie.Need-returns-4
-returns_4 c = omega (arith, left_odd c.before.before.before.args.size c.before.before.before.args.i (omega arith))
+returns_4 : tie.Need-returns
+returns_4 c = omega (arith, left_odd c.args.size c.args.i (omega arith))
 
 pub left_over_spec : {M : Type 1} → statement M
 left_over_spec =

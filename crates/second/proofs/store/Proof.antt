@@ -12,78 +12,78 @@ use Rattle.second.proofs.Entries.{all, all_length, fills_first, stored_length, s
 use Rattle.second.proofs.store.Statement.{statement}
 use Rattle.second.proofs.store.Tie as tie
 
-abbrev invariant_loop : tie.invariant_loop
+abbrev invariant_loop : tie.invariant-loop-e
 invariant_loop count modulus base multiples₀ e₀ multiples e = Filled (all count modulus base) multiples₀ multiples (count + e)
 
-abbrev decreases_loop : tie.decreases_loop
+abbrev decreases_loop : tie.decreases-loop-e
 decreases_loop count modulus base multiples₀ e₀ multiples e = count - e
 
 store_requires : tie.Need-store-requires invariant_loop decreases_loop
-store_requires c κs = let s = c.before.before in (s.requires.0, omega (arith, s.requires.1))
+store_requires c κs = let s = c in (s.requires.0, omega (arith, s.requires.1))
 
-loop_holds : tie.Need-loop-init invariant_loop decreases_loop
+loop_holds : tie.Need-loop-e-init invariant_loop decreases_loop
 unfolding multiples_of
 loop_holds c =
-    let t = c.before.before in
-    let s = t.before.before.before in
+    let t = c in
+    let s = t in
     let a = s.args in
     fills_first a.count a.modulus a.base a.multiples.now _ t.store.ensures s.requires.1
 
-mul_plus : tie.Need-overflow-mul-plus invariant_loop decreases_loop
+mul_plus : tie.Need-offset_bounds-multiples-e invariant_loop decreases_loop
 mul_plus c = omega arith
 
-slice_read_plus : tie.Need-slice-read-plus invariant_loop decreases_loop
+slice_read_plus : tie.Need-bounds-multiples-e invariant_loop decreases_loop
 slice_read_plus c = omega arith
 
-sub_plus : tie.Need-overflow-sub-plus invariant_loop decreases_loop
+sub_plus : tie.Need-overflow_sub-modulus invariant_loop decreases_loop
 sub_plus c =
-    let s = c.before.before.before.before.before.before.before.before in
+    let s = c in
     let a = s.args in
-    let l = c.before.before.loop in
+    let l = c.loop-e in
     omega (arith, reads a.count a.modulus a.base l.e l.invariant (omega arith), stored_lt a.modulus a.base s.requires.0 l.e)
 
 plus_requires : tie.Need-plus-requires invariant_loop decreases_loop
 plus_requires c κs =
-    let s = c.before.before.before.before.before.before.before.before in
+    let s = c in
     omega (arith, s.requires.0)
 
-add_multiples : tie.Need-overflow-add-multiples invariant_loop decreases_loop
+add_multiples : tie.Need-overflow_add-multiples invariant_loop decreases_loop
 add_multiples c = omega arith
 
-mul_multiples : tie.Need-overflow-mul-multiples invariant_loop decreases_loop
+mul_multiples : tie.Need-offset_bounds-multiples-count invariant_loop decreases_loop
 mul_multiples c = omega arith
 
-slice_write_multiples : tie.Need-slice-write-multiples invariant_loop decreases_loop
+slice_write_multiples : tie.Need-bounds-multiples-count invariant_loop decreases_loop
 slice_write_multiples c = omega arith
 
-add_e : tie.Need-overflow-add-e invariant_loop decreases_loop
+add_e : tie.Need-overflow_add-e invariant_loop decreases_loop
 add_e c = omega arith
 
-loop_less : tie.Need-loop-smaller invariant_loop decreases_loop
+loop_less : tie.Need-loop-e-smaller invariant_loop decreases_loop
 loop_less c = omega arith
 
-loop_again : tie.Need-loop-preserved invariant_loop decreases_loop
+loop_again : tie.Need-loop-e-preserved invariant_loop decreases_loop
 loop_again c =
-    let a = c.before.before.before.before.before.before.before.before.before.args in
-    let l = c.before.before.before.loop in
+    let a = c.args in
+    let l = c.loop-e in
     fills_more a.count a.modulus a.base l.multiples l.e l.invariant (omega arith) (omega arith) c.plus.ensures
 
-same_length : tie.Need-same-length invariant_loop decreases_loop
+same_length : tie.Need-shape_of-multiples invariant_loop decreases_loop
 unfolding multiples_of
 same_length c =
-    let t = c.before.before.before.before in
-    let s = t.before.before.before in
+    let t = c in
+    let s = t in
     let a = s.args in
-    c.before.loop.invariant.same_length ∙ stored_length a.count a.modulus a.base a.multiples.now _ t.store.ensures s.requires.1
+    c.loop-e.invariant.same_length ∙ stored_length a.count a.modulus a.base a.multiples.now _ t.store.ensures s.requires.1
 
 returns : tie.Need-returns invariant_loop decreases_loop
 unfolding multiples_of second_multiples_of
 returns c =
-    let t = c.before.before.before.before in
-    let s = t.before.before.before in
+    let t = c in
+    let s = t in
     let a = s.args in
-    let l = c.before.loop in
-    let d = t.store.new.1.1.1.0 in
+    let l = c.loop-e in
+    let d = t.store.new.multiples in
     let list = all a.count a.modulus a.base in
     let k = all_length a.count a.modulus a.base in
     fill_all list d l.multiples (a.count + l.e) l.invariant (omega (arith, k, l.invariant.within))

@@ -7,13 +7,13 @@ use Rattle.signed.proofs.Raises.{sum_fits, sum_good, sum_raised}
 use Rattle.signed.proofs.raised.Statement.{statement}
 use Rattle.signed.proofs.raised.Tie as tie
 
-cast_result : tie.Need-overflow-cast-result
+cast_result : tie.Need-overflow_cast-result
 cast_result c = cast_fits w8 w32 (lit< tt) (lit< tt) _ c.ranges.d
 
-add_result : tie.Need-overflow-add-result
+add_result : tie.Need-overflow_add-result
 add_result c = sum_fits c.args.level c.requires.0 c.requires.1 _ c.ranges.d
 
-cast_result_3 : tie.Need-overflow-cast-result-3
+cast_result_3 : tie.Need-overflow_cast-result-3
 cast_result_3 c = sum_good c.args.level c.requires.0 c.requires.1 _ c.ranges.d
 
 returns : tie.Need-returns

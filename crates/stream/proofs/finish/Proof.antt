@@ -11,23 +11,23 @@ use borrow.Author.Rules.{rules}
 use Rattle.stream.proofs.finish.Statement.{statement}
 use Rattle.stream.proofs.finish.Tie as tie
 
-returns : tie.Need-returns
+returns : tie.Need-returns-then-kept-eq0
 returns c =
-    let s = c.before.before.before.before.before in
+    let s = c in
     let line = s.args.line.now in
-    record { within = omega arith; answers = λ p k. last_none (Answer (version_of s.args.version)) p line (omega (arith, s.requires.0.1)) (subst (Keeps p line) c.if1.true k) }
+    record { within = omega arith; answers = λ p k. last_none (Answer (version_of s.args.version)) p line (omega (arith, s.requires.0.1)) (subst (Keeps p line) c.if-kept-eq0.true k) }
 
-slice_aggregate_answer : tie.Need-slice-aggregate-answer
+slice_aggregate_answer : tie.Need-slice_bounds-answer-end
 slice_aggregate_answer c = sym (length-take-le _ _ (omega arith))
 
-returns_2 : tie.Need-returns-2
+returns_2 : tie.Need-returns
 returns_2 c =
-    let w = c.before.before.before.before.before.before.before in
-    let s = w.before.before.before.before.before.before.before.before.before.before.before in
+    let w = c in
+    let s = w in
     let F = w.answer.ensures.enough s.requires.1 in
     record {
       within = F.within;
-      answers = λ p k. last_some (Answer (version_of s.args.version)) p s.args.line.now s.args.kept k w.before.before.before.before.before.before.if1.false _ (answer_kept k s.requires.0.1 _ F.answer);
+      answers = λ p k. last_some (Answer (version_of s.args.version)) p s.args.line.now s.args.kept k w.if-kept-eq0.false _ (answer_kept k s.requires.0.1 _ F.answer);
     }
 
 pub finish_spec : {M : Type 1} → statement M

@@ -18,65 +18,65 @@ use Rattle.stream.proofs.step.Statement.{statement}
 use Rattle.stream.proofs.step.Tie as tie
 
 -- where the step began, the line that was cut, and its answer
-abbrev start : tie.After-answer → tie.Start
-start c = c.before.before.before.before.before.before.before.before.before.before.before.before.before.before.before.before
+abbrev start : tie.After-answer-count → tie.Start
+start c = c.before.before.before.before.before.before.before.before.before.before.before.before.before.before.before
 
-abbrev cut : tie.After-answer → tie.After-next
-cut c = c.before.before.before.before.before.before.before.before.before
+abbrev cut : tie.After-answer-count → tie.After-next-cut
+cut c = c.before.before.before.before.before.before.before.before
 
-filled_is : (c : tie.After-answer)
+filled_is : (c : tie.After-answer-count)
     → let a = (start c).args in
-    let n = (cut c).next in
-    let w = c.answer.new.1 in
-    Filled (version_of a.version) (take n.result.kept n.last.1.0) a.bytes.now a.digits.now a.marks.now (take (length a.out.now - a.filled) (drop a.filled a.out.now))
-    c.answer.result w.1.0 w.1.1.0 w.1.1.1.0 w.1.1.1.1.0
+    let n = (cut c).next-cut in
+    let w = c.answer-count.new in
+    Filled (version_of a.version) (take n.result.kept n.new.line) a.bytes.now a.digits.now a.marks.now (take (length a.out.now - a.filled) (drop a.filled a.out.now))
+    c.answer-count.result w.bytes w.digits w.marks w.out
 filled_is c =
     let a = (start c).args in
-    c.answer.ensures.enough (rw (part_lent a.out.now a.filled) (start c).requires.1.1)
+    c.answer-count.ensures.enough (rw (part_lent a.out.now a.filled) (start c).requires.1.1)
 
 -- as much is kept as decides the answer
-enough : (c : tie.After-next) → least_kept ≤ length c.next.new.1.0
-enough c = omega (arith, c.next.auto.1.0, c.before.before.before.before.before.before.before.requires.0.1)
+enough : (c : tie.After-next-cut) → least_kept ≤ length c.next-cut.new.line
+enough c = omega (arith, c.next-cut.auto.line, c.requires.0.1)
 
 -- the answers' end stays within the memory
-fits : (c : tie.After-answer) → (start c).args.filled + c.answer.result ≤ length (start c).args.out.now
+fits : (c : tie.After-answer-count) → (start c).args.filled + c.answer-count.result ≤ length (start c).args.out.now
 fits c =
     let a = (start c).args in
-    omega (arith, (filled_is c).within, c.answer.auto.1.1.1.1.1.0, ap length (part_lent a.out.now a.filled), length-drop a.filled a.out.now, (start c).requires.1.0)
+    omega (arith, (filled_is c).within, c.answer-count.auto.out, ap length (part_lent a.out.now a.filled), length-drop a.filled a.out.now, (start c).requires.1.0)
 
-slice_aggregate_answer : tie.Need-slice-aggregate-answer
-slice_aggregate_answer c = sym (length-take-le _ _ c.before.before.before.before.next.ensures.kept_within)
+slice_aggregate_answer : tie.Need-slice_bounds-answer-end-then-cut
+slice_aggregate_answer c = sym (length-take-le _ _ c.next-cut.ensures.kept_within)
 
-add_t25 : tie.Need-overflow-add-t25
+add_t25 : tie.Need-overflow_add-result
 add_t25 c = omega (arith, fits c.before.before.before.before.before.before.before)
 
-returns : tie.Need-returns
+returns : tie.Need-returns-then-cut
 returns c =
     let w = c.before.before.before.before.before.before.before in
     let a = (start w).args in
-    let C = (cut w).next.ensures in
+    let C = (cut w).next-cut.ensures in
     let F = filled_is w in
-    let more = w.answer.new.1.1.1.1.1.0 in
+    let more = w.answer-count.new.out in
     record {
       used_within = C.used_within;
       kept_within = omega arith;
-      filled_within = subst (λ n. a.filled + w.answer.result ≤ n) (sym (same_len_mid a.filled (length a.out.now - a.filled) a.out.now more w.answer.auto.1.1.1.1.1.0)) (fits w);
+      filled_within = subst (λ n. a.filled + w.answer-count.result ≤ n) (sym (same_len_mid a.filled (length a.out.now - a.filled) a.out.now more w.answer-count.auto.out)) (fits w);
       moves = C.moves;
       taken = λ p before first t.
-          let ended = C.ends w.before.before.before.before.before.before.if1.true (begun p before) t.keeps in
-          taken_closed (Answer (version_of a.version)) t ended more w.answer.result F.within (answer_kept ended.keeps (enough (cut w)) (take w.answer.result more) F.answer) F.rest;
+          let ended = C.ends w.if-cut.true (begun p before) t.keeps in
+          taken_closed (Answer (version_of a.version)) t ended more w.answer-count.result F.within (answer_kept ended.keeps (enough (cut w)) (take w.answer-count.result more) F.answer) F.rest;
     }
 
-returns_2 : tie.Need-returns-2
+returns_2 : tie.Need-returns
 returns_2 c =
-    let C = c.before.before.before.next.ensures in
-    let s = c.before.before.before.before.before.before.before.before.before.before in
+    let C = c.next-cut.ensures in
+    let s = c in
     record {
       used_within = C.used_within;
       kept_within = C.kept_within;
       filled_within = s.requires.1.0;
       moves = C.moves;
-      taken = λ p before first t. taken_open (Answer (version_of s.args.version)) t (C.goes_on c.if1.false (begun p before) t.keeps);
+      taken = λ p before first t. taken_open (Answer (version_of s.args.version)) t (C.goes_on c.if-cut.false (begun p before) t.keeps);
     }
 
 pub step_spec : {M : Type 1} → statement M

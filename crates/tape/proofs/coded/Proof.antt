@@ -4,11 +4,11 @@ use borrow.Author.Rules.{rules}
 use Rattle.tape.proofs.coded.Statement.{statement}
 use Rattle.tape.proofs.coded.Tie as tie
 
-returns : tie.Need-returns
-returns c = rw c.before.enum_told.given.1 (omega arith)
+returns : tie.Need-returns-in-Plus
+returns c = rw c.in-Plus.is (omega arith)
 
-returns_2 : tie.Need-returns-2
-returns_2 c = rw c.before.enum-told2.given.1 (omega arith)
+returns_2 : tie.Need-returns-in-Minus
+returns_2 c = rw c.in-Minus.is (omega arith)
 
 pub coded_spec : {M : Type 1} → statement M
 coded_spec =

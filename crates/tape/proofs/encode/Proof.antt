@@ -9,16 +9,16 @@ use Rattle.tape.proofs.encode.Statement.{statement}
 use Rattle.tape.proofs.encode.Tie as tie
 
 coded_requires : tie.Need-coded-requires
-coded_requires c κs = (omega arith, subst (λ s. Coded (told s)) c.before.step.given.1 c.before.before.before.requires)
+coded_requires c κs = (omega arith, subst (λ s. Coded (told s)) c.in-Load.is c.requires)
 
-coded_requires_2 : tie.Need-coded-requires-2
-coded_requires_2 c κs = (omega arith, subst (λ s. Coded (told s)) c.before.step2.given.1 c.before.before.before.requires)
+coded_requires_2 : tie.Need-coded-requires-in-Add
+coded_requires_2 c κs = (omega arith, subst (λ s. Coded (told s)) c.in-Add.is c.requires)
 
-returns_2 : tie.Need-returns-2
-returns_2 c = c.coded.ensures ∙ sym (ap (λ s. word_of (told s)) c.before.before.step.given.1)
+returns_2 : tie.Need-returns-in-Load
+returns_2 c = c.coded.ensures ∙ sym (ap (λ s. word_of (told s)) c.in-Load.is)
 
-returns_3 : tie.Need-returns-3
-returns_3 c = c.coded2.ensures ∙ sym (ap (λ s. word_of (told s)) c.before.before.step2.given.1)
+returns_3 : tie.Need-returns-in-Add
+returns_3 c = c.coded-in-Add.ensures ∙ sym (ap (λ s. word_of (told s)) c.in-Add.is)
 
 pub encode_spec : {M : Type 1} → statement M
 encode_spec =

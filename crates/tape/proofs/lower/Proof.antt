@@ -11,21 +11,21 @@ use Rattle.tape.proofs.lower.Statement.{statement}
 use Rattle.tape.proofs.lower.Tie as tie
 
 -- the digit counts as it is
-counts : (c : tie.After-counted) → c.counted.result ≡ nonzero c.before.before.before.before.args.digit
-counts c = c.counted.ensures ∙ ap nonzero (to_z-of_z c.before.before.before.before.ranges.digit)
+counts : (c : tie.After-counted) → c.counted.result ≡ nonzero c.args.digit
+counts c = c.counted.ensures ∙ ap nonzero (to_z-of_z c.ranges.digit)
 
-add_result_2 : tie.Need-overflow-add-result-2
-add_result_2 c = let a = c.before.before.before.before.args in omega (arith, counts c, nonzero_le a.digit)
+add_result_2 : tie.Need-overflow_add-result-2
+add_result_2 c = let a = c.args in omega (arith, counts c, nonzero_le a.digit)
 
 returns : tie.Need-returns
 returns c =
-    let s = c.before.before.before.before in
+    let s = c in
     let a = s.args in
     record {
       next_is = omega (arith, counts c);
-      after = c.before.added.result;
-      after_is = rw (to_z-of_z s.ranges.digit) at c.before.added.ensures;
-      words_are = ap (λ x. set (set a.words.now a.at x) (a.at + 1) c.before.added.result) c.before.before.encode.ensures;
+      after = c.added.result;
+      after_is = rw (to_z-of_z s.ranges.digit) at c.added.ensures;
+      words_are = ap (λ x. set (set a.words.now a.at x) (a.at + 1) c.added.result) c.encode.ensures;
     }
 
 pub lower_spec : {M : Type 1} → statement M

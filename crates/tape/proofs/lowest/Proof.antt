@@ -13,21 +13,21 @@ use Rattle.tape.proofs.lowest.Statement.{statement}
 use Rattle.tape.proofs.lowest.Tie as tie
 
 -- the digit is not 0
-some : (c : tie.After-added) → c.before.before.before.before.args.digit ≢ pos 0
-some c = bits_some w8 c.before.before.before.before.args.digit c.before.if1.true
+some : (c : tie.After-added) → c.args.digit ≢ pos 0
+some c = bits_some w8 c.args.digit c.if-digit-ne0.true
 
-slice_write_words_2 : tie.Need-slice-write-words-2
-slice_write_words_2 c = simp length-set (omega (arith, nonzero_one c.before.before.before.before.args.digit (some c)))
+slice_write_words_2 : tie.Need-bounds-words-at-then-digit-ne0
+slice_write_words_2 c = simp length-set (omega (arith, nonzero_one c.args.digit (some c)))
 
-returns : tie.Need-returns
+returns : tie.Need-returns-then-digit-ne0
 returns c =
-    let s = c.before.before.before.before in
-    lowest_digit s.args.digit s.args.at s.args.words.now c.before.before.encode.ensures ((rw (to_z-of_z s.ranges.digit) at c.added.ensures) (some c))
+    let s = c in
+    lowest_digit s.args.digit s.args.at s.args.words.now c.encode.ensures ((rw (to_z-of_z s.ranges.digit) at c.added.ensures) (some c))
 
-returns_2 : tie.Need-returns-2
+returns_2 : tie.Need-returns-else-digit-ne0
 returns_2 c =
-    let s = c.before.before.before in
-    lowest_zero s.args.at s.args.words.now (bits_none w8 s.args.digit s.ranges.digit c.if1.false) c.before.encode.ensures
+    let s = c in
+    lowest_zero s.args.at s.args.words.now (bits_none w8 s.args.digit s.ranges.digit c.if-digit-ne0.false) c.encode.ensures
 
 pub lowest_spec : {M : Type 1} → statement M
 lowest_spec =

@@ -11,17 +11,17 @@ use Rattle.tape.proofs.move_of.Statement.{statement}
 use Rattle.tape.proofs.move_of.Tie as tie
 
 -- a signed argument goes to a call as its bits
-found : (c : tie.After-magnitude) → c.magnitude.result ≡ nat_abs c.before.args.digit
-found c = c.magnitude.ensures ∙ ap nat_abs (to_z-of_z c.before.ranges.digit)
+found : (c : tie.After-magnitude) → c.magnitude.result ≡ nat_abs c.args.digit
+found c = c.magnitude.ensures ∙ ap nat_abs (to_z-of_z c.ranges.digit)
 
-sub_entry : tie.Need-overflow-sub-entry
-sub_entry c = omega (arith, found c, abs_pos c.before.args.digit c.before.requires)
+sub_entry : tie.Need-overflow_sub-entry
+sub_entry c = omega (arith, found c, abs_pos c.args.digit c.requires)
 
-returns : tie.Need-returns
-returns c = record { entry_is = ap (λ k. (k - 1) / 2) (found c.before); sign_is = sign_minus c.before.before.args.digit (rw (to_z-of_z c.before.before.ranges.digit) at c.if1.true) }
+returns : tie.Need-returns-then-digit-lt0
+returns c = record { entry_is = ap (λ k. (k - 1) / 2) (found c.before); sign_is = sign_minus c.args.digit (rw (to_z-of_z c.ranges.digit) at c.if-digit-lt0.true) }
 
-returns_2 : tie.Need-returns-2
-returns_2 c = record { entry_is = ap (λ k. (k - 1) / 2) (found c.before); sign_is = sign_plus c.before.before.args.digit (rw (to_z-of_z c.before.before.ranges.digit) at c.if1.false) }
+returns_2 : tie.Need-returns
+returns_2 c = record { entry_is = ap (λ k. (k - 1) / 2) (found c.before); sign_is = sign_plus c.args.digit (rw (to_z-of_z c.ranges.digit) at c.if-digit-lt0.false) }
 
 pub move_of_spec : {M : Type 1} → statement M
 move_of_spec = tie.close (tie.spec (λ c κs. search rules) sub_entry (λ c. search rules) returns returns_2)

@@ -4,10 +4,10 @@ use borrow.Author.Rules.{rules}
 use Rattle.tape.proofs.twice.Statement.{statement}
 use Rattle.tape.proofs.twice.Tie as tie
 
-returns : tie.Need-returns
+returns : tie.Need-returns-then-raised-lt128
 returns c = record { minus = λ h. omega arith; plus = λ h. absurd (omega arith) }
 
-returns_2 : tie.Need-returns-2
+returns_2 : tie.Need-returns-else-raised-lt128
 returns_2 c = record { minus = λ h. absurd (omega arith); plus = λ h. omega arith }
 
 pub twice_spec : {M : Type 1} → statement M

@@ -10,18 +10,18 @@ use Rattle.windows.proofs.difference.Statement.{statement}
 use Rattle.windows.proofs.difference.Tie as tie
 
 -- the size fits a digit
-small : (c : tie.Then1) → let a = c.before.args in a.b - a.a < 128
+small : (c : tie.Then-a-b) → let a = c.args in a.b - a.a < 128
 small c = omega arith
 
-sub_result : tie.Need-overflow-sub-result
+sub_result : tie.Need-overflow_sub-result
 sub_result c = negated_fits w8 _ (small c)
 
-returns : tie.Need-returns
-returns c = let a = c.before.args in negated_back w8 (a.b - a.a) (small c) ∙ negated a.a a.b (omega arith)
+returns : tie.Need-returns-then-a-b
+returns c = let a = c.args in negated_back w8 (a.b - a.a) (small c) ∙ negated a.a a.b (omega arith)
 
-returns_2 : tie.Need-returns-2
+returns_2 : tie.Need-returns
 returns_2 c =
-    let a = c.before.args in
+    let a = c.args in
     let l : a.a - a.b < 128 = omega arith in
     plain_is w8 (a.a - a.b) l ∙ plain_sub a.a a.b (omega arith)
 

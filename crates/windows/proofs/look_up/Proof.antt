@@ -12,10 +12,10 @@ use Rattle.windows.proofs.look_up.Statement.{statement}
 use Rattle.windows.proofs.look_up.Tie as tie
 
 -- the entry is one of the table's
-under : (c : tie.After-table-start) → table_start c.before.args.w.bits + c.before.args.s < table_length
-under c = within c.before.args.w.bits c.before.args.s c.before.requires.0 c.before.requires.1
+under : (c : tie.After-table_start) → table_start c.args.w.bits + c.args.s < table_length
+under c = within c.args.w.bits c.args.s c.requires.0 c.requires.1
 
-add_read : tie.Need-overflow-add-read
+add_read : tie.Need-overflow_add-table_start
 add_read c = omega (arith, under c)
 
 read_requires : tie.Need-read-requires
@@ -26,7 +26,7 @@ returns c =
     let a = c.before.before in
     let w = a.args.w.bits in
     let s = a.args.s in
-    let at : c.before.table-start.result + s ≡ table_start w + s = ap (λ i. i + s) c.before.table-start.ensures in
+    let at : c.table_start.result + s ≡ table_start w + s = ap (λ i. i + s) c.table_start.ensures in
     let r = c.read.ensures in
     record {
       unit_is = r.unit_is ∙ ap unit_of at ∙ unit_of_is w s a.requires.0 a.requires.1;

@@ -10,14 +10,14 @@ use Rattle.windows.proofs.Digits.{negated, plain_sub}
 use Rattle.wnaf.proofs.lowered.Statement.{statement}
 use Rattle.wnaf.proofs.lowered.Tie as tie
 
-returns : tie.Need-returns
+returns : tie.Need-returns-then-rest-over
 returns c =
-    let a = c.before.before.args in
-    to_z-of_z (sfits_of c.minus.type-inv) ∙ c.minus.ensures ∙ negated a.rest a.over (omega arith)
+    let a = c.args in
+    to_z-of_z {w = w8} (sfits_of c.minus.type_inv) ∙ c.minus.ensures ∙ negated a.rest a.over (omega arith)
 
-returns_2 : tie.Need-returns-2
+returns_2 : tie.Need-returns
 returns_2 c =
-    let a = c.before.args in
+    let a = c.args in
     let l : a.rest - a.over < 128 = omega arith in
     plain_is w8 (a.rest - a.over) l ∙ plain_sub a.rest a.over (omega arith)
 

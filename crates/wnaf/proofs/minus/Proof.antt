@@ -5,7 +5,7 @@ use Rattle.laws.proofs.Signed.{negated_fits, negated_back}
 use Rattle.wnaf.proofs.minus.Statement.{statement}
 use Rattle.wnaf.proofs.minus.Tie as tie
 
-sub_result : tie.Need-overflow-sub-result
+sub_result : tie.Need-overflow_sub-result
 sub_result c = negated_fits w8 c.args.size c.requires
 
 returns : tie.Need-returns

@@ -17,53 +17,53 @@ span c = shl_exact {a = 2} 2 c.args.w 64 (lit< tt) (omega (arith, pair_wide c.re
 few : (c : tie.Start) → (c.args.largest < 128) × (2 ^ c.args.w ≤ 256) × (0 < 2 ^ c.args.w)
 few c = (pair_small c.requires.0, pow_mono {i = c.args.w} {j = 8} (omega (arith, pair_wide c.requires.0)), pow_pos c.args.w)
 
-add_raised : tie.Need-overflow-add-raised
+add_raised : tie.Need-overflow_add-raised
 add_raised c = record { fits = omega (arith, few c) }
 
-rem_rest : tie.Need-nonzero-rem-rest
+rem_rest : tie.Need-nonzero_rem-rest
 rem_rest c = omega (arith, span c, few c)
 
-div_above : tie.Need-nonzero-div-above
+div_above : tie.Need-nonzero_div-above
 div_above c = omega (arith, span c, few c)
 
-mul_above : tie.Need-overflow-mul-above
+mul_above : tie.Need-overflow_mul-above
 mul_above c =
     let a = c.args in
     record { fits = omega (arith, few c, above_small a.w a.largest a.y c.requires.0.between c.requires.1.0 (2 * 2 ^ a.w % 2 ^ 64) (span c)) }
 
-mul_if1 : tie.Need-overflow-mul-if1
+mul_if1 : tie.Need-overflow_mul-largest
 mul_if1 c = record { fits = omega (arith, few c) }
 
 left_requires : tie.Need-left-requires
-left_requires c κs = (omega (arith, few c.before, c.if1.true), omega (arith, few c.before))
+left_requires c κs = (omega (arith, few c.before, c.if-rest-largest.true), omega (arith, few c.before))
 
-returns : tie.Need-returns
+returns : tie.Need-returns-then-rest-largest
 returns c =
     let s = c.before.before in
     let a = s.args in
-    takes_near a.w a.largest a.y s.requires.0.between s.requires.1.0 (2 * 2 ^ a.w % 2 ^ 64) (span s) c.before.if1.true c.left.ensures
+    takes_near a.w a.largest a.y s.requires.0.between s.requires.1.0 (2 * 2 ^ a.w % 2 ^ 64) (span s) c.if-rest-largest.true c.left.ensures
 
-add_left : tie.Need-overflow-add-left
+add_left : tie.Need-overflow_add-largest
 add_left c = record { fits = omega (arith, few c.before, span c.before) }
 
-add_left_2 : tie.Need-overflow-add-left-2
+add_left_2 : tie.Need-overflow_add-above
 add_left_2 c =
-    let a = c.before.args in
-    record { fits = omega (arith, few c.before, above_small a.w a.largest a.y c.before.requires.0.between c.before.requires.1.0 (2 * 2 ^ a.w % 2 ^ 64) (span c.before)) }
+    let a = c.args in
+    record { fits = omega (arith, few c.before, above_small a.w a.largest a.y c.requires.0.between c.requires.1.0 (2 * 2 ^ a.w % 2 ^ 64) (span c.before)) }
 
 left_requires_2 : tie.Need-left-requires-2
 left_requires_2 c κs =
     let s = c.before in
     let a = s.args in
-    let l = left_far a.w a.largest a.y s.requires.0.between s.requires.1.0 (2 * 2 ^ a.w % 2 ^ 64) (span s) (omega (arith, c.if1.false)) in
+    let l = left_far a.w a.largest a.y s.requires.0.between s.requires.1.0 (2 * 2 ^ a.w % 2 ^ 64) (span s) (omega (arith, c.if-rest-largest.false)) in
     (omega (arith, few s, span s, l), omega (arith, few s, span s, l))
 
-returns_2 : tie.Need-returns-2
+returns_2 : tie.Need-returns
 returns_2 c =
     let s = c.before.before in
     let a = s.args in
     let half : 2 * 2 ^ a.w % 2 ^ 64 / 2 ≡ 2 ^ a.w = omega (arith, span s) in
-    takes_far a.w a.largest a.y s.requires.0.between s.requires.1.0 (2 * 2 ^ a.w % 2 ^ 64) (span s) (omega (arith, c.before.if1.false)) (rw half at c.left2.ensures)
+    takes_far a.w a.largest a.y s.requires.0.between s.requires.1.0 (2 * 2 ^ a.w % 2 ^ 64) (span s) (omega (arith, c.if-rest-largest.false)) (rw half at c.left-2.ensures)
 
 pub take_between_spec : {M : Type 1} → statement M
 take_between_spec =

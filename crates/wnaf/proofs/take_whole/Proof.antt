@@ -11,13 +11,13 @@ use Rattle.wnaf.proofs.take_whole.Tie as tie
 few : (c : tie.Start) → (2 ≤ c.args.half) × (c.args.half ≤ 128)
 few c = (omega (arith, pair_some c.requires.0), omega (arith, pair_small c.requires.0))
 
-add_raised : tie.Need-overflow-add-raised
+add_raised : tie.Need-overflow_add-raised
 add_raised c = record { fits = omega (arith, few c) }
 
-mul_left : tie.Need-overflow-mul-left
+mul_left : tie.Need-overflow_mul-half
 mul_left c = record { fits = omega (arith, few c) }
 
-rem_left : tie.Need-nonzero-rem-left
+rem_left : tie.Need-nonzero_rem-raised
 rem_left c = omega (arith, few c)
 
 left_requires : tie.Need-left-requires

@@ -7,13 +7,13 @@ use borrow.Author.Rules.{rules}
 use Rattle.asking.proofs.asked.digits.Statement.{statement}
 use Rattle.asking.proofs.asked.digits.Tie as tie
 
-abbrev invariant_loop : tie.invariant_loop
+abbrev invariant_loop : tie.invariant-loop-i
 invariant_loop bytes digits₀ i₀ digits i = (i ≤ length digits) × (length digits ≡ length digits₀)
 
-abbrev decreases_loop : tie.decreases_loop
+abbrev decreases_loop : tie.decreases-loop-i
 decreases_loop bytes digits₀ i₀ digits i = length digits₀ - i
 
-loop_again : tie.Need-loop-preserved invariant_loop decreases_loop
+loop_again : tie.Need-loop-i-preserved invariant_loop decreases_loop
 loop_again c = simp length-set (omega arith)
 
 pub digits_spec : {M : Type 1} → statement M

@@ -7,13 +7,13 @@ use borrow.Author.Rules.{rules}
 use Rattle.asking.proofs.asked.words.Statement.{statement}
 use Rattle.asking.proofs.asked.words.Tie as tie
 
-abbrev invariant_loop : tie.invariant_loop
+abbrev invariant_loop : tie.invariant-loop-i
 invariant_loop bytes words₀ i₀ words i = (i ≤ length words) × (length words ≡ length words₀)
 
-abbrev decreases_loop : tie.decreases_loop
+abbrev decreases_loop : tie.decreases-loop-i
 decreases_loop bytes words₀ i₀ words i = length words₀ - i
 
-loop_again : tie.Need-loop-preserved invariant_loop decreases_loop
+loop_again : tie.Need-loop-i-preserved invariant_loop decreases_loop
 loop_again c = simp length-set (omega arith)
 
 pub words_spec : {M : Type 1} → statement M

@@ -6,10 +6,10 @@ use borrow.Author.Rules.{rules}
 use Rattle.asking.proofs.print.number.Statement.{statement}
 use Rattle.asking.proofs.print.number.Tie as tie
 
-abbrev invariant_loop : tie.invariant_loop
+abbrev invariant_loop : tie.invariant-loop-k
 invariant_loop x bytes at out₀ rest₀ k₀ out rest k = (k ≤ 2 * bytes) × (length out ≡ length out₀)
 
-abbrev decreases_loop : tie.decreases_loop
+abbrev decreases_loop : tie.decreases-loop-k
 decreases_loop x bytes at out₀ rest₀ k₀ out rest k = k
 
 pub number_spec : {M : Type 1} → statement M

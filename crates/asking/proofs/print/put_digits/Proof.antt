@@ -6,10 +6,10 @@ use borrow.Author.Rules.{rules}
 use Rattle.asking.proofs.print.put_digits.Statement.{statement}
 use Rattle.asking.proofs.print.put_digits.Tie as tie
 
-abbrev invariant_loop : tie.invariant_loop
+abbrev invariant_loop : tie.invariant-loop-i
 invariant_loop digits at out₀ next₀ i₀ out next i = (i ≤ length digits) × (next ≡ at + 2 * i) × (length out ≡ length out₀)
 
-abbrev decreases_loop : tie.decreases_loop
+abbrev decreases_loop : tie.decreases-loop-i
 decreases_loop digits at out₀ next₀ i₀ out next i = length digits - i
 
 pub put_digits_spec : {M : Type 1} → statement M

@@ -11,20 +11,20 @@ use borrow.Author.Rules.{rules}
 use Rattle.frames.proofs.counts.counted.Statement.{statement}
 use Rattle.frames.proofs.counts.counted.Tie as tie
 
-returns : tie.Need-returns
+returns : tie.Need-returns-then-digit-eq0
 returns c =
-    let a = c.before.args in
-    let zero = bits_none w8 a.digit c.before.ranges.digit c.if1.true in
+    let a = c.args in
+    let zero = bits_none w8 a.digit c.ranges.digit c.if-digit-eq0.true in
     record {
       weight_is = omega (arith, nonzero_none zero);
       top_stays = λ e. refl;
       top_moves = λ n. absurd (n zero);
     }
 
-returns_2 : tie.Need-returns-2
+returns_2 : tie.Need-returns
 returns_2 c =
-    let a = c.before.before.args in
-    let some : a.digit ≢ pos 0 = λ e. c.before.if1.false (ap (of_z w8) e) in
+    let a = c.args in
+    let some : a.digit ≢ pos 0 = λ e. c.if-digit-eq0.false (ap (of_z w8) e) in
     record {
       weight_is = omega (arith, nonzero_one a.digit some);
       top_stays = λ e. absurd (some e);

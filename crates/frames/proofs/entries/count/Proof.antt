@@ -4,7 +4,7 @@ use Rattle.hexadecimal.proofs.Characters.{bytes_count}
 use Rattle.frames.proofs.entries.count.Statement.{statement}
 use Rattle.frames.proofs.entries.count.Tie as tie
 
-sub_result : tie.Need-overflow-sub-result
+sub_result : tie.Need-overflow_sub-result
 sub_result c = omega (arith, bytes_count c.args.line.now, c.requires.long)
 
 returns : tie.Need-returns

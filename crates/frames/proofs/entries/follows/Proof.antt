@@ -4,14 +4,14 @@ use Rattle.frames.proofs.Digits.{nonzero_test}
 use Rattle.frames.proofs.entries.follows.Statement.{statement}
 use Rattle.frames.proofs.entries.follows.Tie as tie
 
-returns : tie.Need-returns
-returns c = rw (lt-leb _ _ c.if1.true)
+returns : tie.Need-returns-then-place-floor
+returns c = rw (lt-leb _ _ c.if-place-floor.true)
 
-returns_2 : tie.Need-returns-2
-returns_2 c = rw (le-leb _ _ c.before.if1.false, le-ltb _ _ c.if2.true)
+returns_2 : tie.Need-returns-then-place-places
+returns_2 c = rw (le-leb _ _ c.if-place-floor.false, le-ltb _ _ c.if-place-places.true)
 
-returns_3 : tie.Need-returns-3
-returns_3 c = rw (le-leb _ _ c.before.if1.false, lt-ltb _ _ c.if2.false) (nonzero_test c.before.before.args.digit c.before.before.ranges.digit)
+returns_3 : tie.Need-returns
+returns_3 c = rw (le-leb _ _ c.if-place-floor.false, lt-ltb _ _ c.if-place-places.false) (nonzero_test c.args.digit c.ranges.digit)
 
 pub follows_spec : {M : Type 1} → statement M
 follows_spec =

@@ -10,22 +10,22 @@ use Rattle.frames.proofs.entries.place_of.Statement.{statement}
 use Rattle.frames.proofs.entries.place_of.Tie as tie
 
 -- the entry stands within the line
-fits : (c : tie.Then1) → 2 * (7 + 3 * c.before.before.args.e) + 5 < length c.before.before.args.line.now
-fits c = let a = c.before.before.args in room a.line.now a.n a.e c.before.before.requires.1 c.if1.true
+fits : (c : tie.Then-e-n) → 2 * (7 + 3 * c.args.e) + 5 < length c.args.line.now
+fits c = let a = c.args in room a.line.now a.n a.e c.requires.1 c.if-e-n.true
 
-mul_number_at : tie.Need-overflow-mul-number-at
+mul_number_at : tie.Need-overflow_mul-e
 mul_number_at c = omega (arith, fits c)
 
-add_number_at : tie.Need-overflow-add-number-at
+add_number_at : tie.Need-overflow_add-e
 add_number_at c = omega (arith, fits c)
 
-number_at_requires : tie.Need-number-at-requires
-number_at_requires c κs = (pairs_hex c.before.before.args.line.now c.before.before.requires.0.pairs, omega (arith, fits c))
+number_at_requires : tie.Need-number_at-requires
+number_at_requires c κs = (pairs_hex c.args.line.now c.requires.0.pairs, omega (arith, fits c))
 
-returns : tie.Need-returns
+returns : tie.Need-returns-then-e-n
 returns c = record { found = λ h. c.number_at.ensures; nowhere = λ l. absurd (omega arith) }
 
-returns_2 : tie.Need-returns-2
+returns_2 : tie.Need-returns
 returns_2 c = record { found = λ h. absurd (omega arith); nowhere = λ l. refl }
 
 pub place_of_spec : {M : Type 1} → statement M

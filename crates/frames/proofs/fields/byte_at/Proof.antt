@@ -10,13 +10,13 @@ use Rattle.frames.proofs.fields.byte_at.Tie as tie
 
 byte_requires : tie.Need-byte-requires
 byte_requires c κs =
-    let a = c.before.before.before.args in
-    let hex = flag c.before.before.before.requires.0 in
+    let a = c.args in
+    let hex = flag c.requires.0 in
     (hex_at a.line.now hex (2 * a.k) (omega arith), hex_at a.line.now hex (2 * a.k + 1) (omega arith))
 
 returns : tie.Need-returns
 returns c =
-    let a = c.before.before.before.before.args in
+    let a = c.args in
     c.byte.ensures ∙ sym (byte_is a.line.now a.k (omega arith))
 
 pub byte_at_spec : {M : Type 1} → statement M

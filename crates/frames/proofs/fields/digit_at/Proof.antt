@@ -8,7 +8,7 @@ use Rattle.frames.proofs.fields.digit_at.Statement.{statement}
 use Rattle.frames.proofs.fields.digit_at.Tie as tie
 
 returns : tie.Need-returns
-returns c = to_z-of_z {w = w8} (record { sfits = c.digit_of.type-inv }) ∙ c.digit_of.ensures ∙ ap digit_of c.before.byte_at.ensures
+returns c = to_z-of_z {w = w8} (record { sfits = c.digit_of.type_inv }) ∙ c.digit_of.ensures ∙ ap digit_of c.byte_at.ensures
 
 pub digit_at_spec : {M : Type 1} → statement M
 digit_at_spec =

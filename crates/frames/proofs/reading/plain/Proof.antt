@@ -11,64 +11,64 @@ use borrow.Author.Rules.{rules}
 use Rattle.frames.proofs.reading.plain.Statement.{statement}
 use Rattle.frames.proofs.reading.plain.Tie as tie
 
-sub_n : tie.Need-overflow-sub-n
-sub_n c = omega (arith, bytes_count c.before.args.line.now, c.before.requires.long)
+sub_n : tie.Need-overflow_sub-n
+sub_n c = omega (arith, bytes_count c.args.line.now, c.requires.long)
 
-returns : tie.Need-returns
+returns : tie.Need-returns-then-n-gt-MOST_PLACES
 returns c =
-    let s = c.before.before.before in
+    let s = c in
     let line = s.args.line.now in
     let few = plain_room line s.requires in
     read_long line s.args.digits.now (plain_readable line s.requires) (omega arith) c.refused.ensures
 
-number_at_requires : tie.Need-number-at-requires
-number_at_requires c κs = let s = c.before.before.before in (pairs_hex s.args.line.now s.requires.pairs, omega (arith, bytes_count s.args.line.now, s.requires.long))
+number_at_requires : tie.Need-number_at-weight-requires
+number_at_requires c κs = let s = c in (pairs_hex s.args.line.now s.requires.pairs, omega (arith, bytes_count s.args.line.now, s.requires.long))
 
-number_at_requires_2 : tie.Need-number-at-requires-2
-number_at_requires_2 c κs = let s = c.before.before.before.before in (pairs_hex s.args.line.now s.requires.pairs, omega (arith, bytes_count s.args.line.now, s.requires.long))
+number_at_requires_2 : tie.Need-number_at-top-requires
+number_at_requires_2 c κs = let s = c in (pairs_hex s.args.line.now s.requires.pairs, omega (arith, bytes_count s.args.line.now, s.requires.long))
 
-returns_2 : tie.Need-returns-2
+returns_2 : tie.Need-returns-then-weight-sum
 returns_2 c =
-    let s = c.before.before.before.before.before.before.before.before in
+    let s = c in
     let line = s.args.line.now in
     let few = plain_room line s.requires in
     read_unfit line s.args.digits.now (plain_readable line s.requires) (omega arith)
-    (unfit_weight (bytes_of line) (λ e. c.before.if2.true (c.before.before.before.before.number_at.ensures ∙ e ∙ sym c.before.before.before.before.before.tally.ensures.0))) c.refused2.ensures
+    (unfit_weight (bytes_of line) (λ e. c.if-weight-sum.true (c.number_at-weight.ensures ∙ e ∙ sym c.tally-sum.ensures.0))) c.refused-then-weight-sum.ensures
 
-returns_3 : tie.Need-returns-3
+returns_3 : tie.Need-returns-then-top-sum
 returns_3 c =
-    let s = c.before.before.before.before.before.before.before.before.before.before in
+    let s = c in
     let line = s.args.line.now in
     let few = plain_room line s.requires in
     read_unfit line s.args.digits.now (plain_readable line s.requires) (omega arith)
-    (unfit_top (bytes_of line) (λ e. c.before.if3.true (c.before.before.before.before.before.number-at2.ensures ∙ e ∙ sym c.before.before.before.before.before.before.before.tally.ensures.1))) c.refused3.ensures
+    (unfit_top (bytes_of line) (λ e. c.if-top-sum.true (c.number_at-top.ensures ∙ e ∙ sym c.tally-sum.ensures.1))) c.refused-then-top-sum.ensures
 
 -- weight and top fit
-fits : (c : tie.Else3) → Fit (bytes_of c.before.before.before.before.before.before.before.before.before.args.line.now)
+fits : (c : tie.Else-top-sum) → Fit (bytes_of c.args.line.now)
 fits c =
     record {
-      ordered = plain_order (bytes_of c.before.before.before.before.before.before.before.before.before.args.line.now) c.before.before.before.before.before.before.before.before.before.requires.plain;
-      weight_fits = sym c.before.before.before.before.before.number_at.ensures ∙ c.before.before.if2.false ∙ c.before.before.before.before.before.before.tally.ensures.0;
-      top_fits = sym c.before.before.before.before.number-at2.ensures ∙ c.if3.false ∙ c.before.before.before.before.before.before.tally.ensures.1;
+      ordered = plain_order (bytes_of c.args.line.now) c.requires.plain;
+      weight_fits = sym c.number_at-weight.ensures ∙ c.if-weight-sum.false ∙ c.tally-sum.ensures.0;
+      top_fits = sym c.number_at-top.ensures ∙ c.if-top-sum.false ∙ c.tally-sum.ensures.1;
     }
 
-returns_4 : tie.Need-returns-4
+returns_4 : tie.Need-returns-then-digits-n
 returns_4 c =
-    let s = c.before.before.before.before.before.before.before.before.before.before.before in
+    let s = c in
     let line = s.args.line.now in
     let few = plain_room line s.requires in
-    read_short line s.args.digits.now (plain_readable line s.requires) (omega arith) (fits c.before.before) (omega arith) c.refused4.ensures
+    read_short line s.args.digits.now (plain_readable line s.requires) (omega arith) (fits c.before.before) (omega arith) c.refused-then-digits-n.ensures
 
 copy_requires : tie.Need-copy-requires
-copy_requires c κs = let s = c.before.before.before.before.before.before.before.before.before.before.before in (s.requires, omega (arith, plain_room s.args.line.now s.requires))
+copy_requires c κs = let s = c in (s.requires, omega (arith, plain_room s.args.line.now s.requires))
 
-returns_5 : tie.Need-returns-5
+returns_5 : tie.Need-returns
 returns_5 c =
-    let s = c.before.before.before.before.before.before.before.before.before.before.before.before.before in
+    let s = c in
     let line = s.args.line.now in
     let few = plain_room line s.requires in
-    read_whole line s.args.digits.now (plain_readable line s.requires) (omega arith) (fits c.before.before.before.before) s.requires.unstated (omega arith) c.before.before.before.before.before.before.before.before.before.number_at.ensures c.before.before.before.before.before.before.before.before.number-at2.ensures
-    (sym few) c.before.copy.ensures
+    read_whole line s.args.digits.now (plain_readable line s.requires) (omega arith) (fits c.before.before.before.before) s.requires.unstated (omega arith) c.number_at-weight.ensures c.number_at-top.ensures
+    (sym few) c.copy.ensures
 
 pub plain_spec : {M : Type 1} → statement M
 plain_spec =

@@ -7,20 +7,20 @@ use Rattle.frames.proofs.reading.read.Statement.{statement}
 use Rattle.frames.proofs.reading.read.Tie as tie
 
 plain_requires : tie.Need-plain-requires
-plain_requires c κs = subst (Kinded c.before.before.before.before.before.args.line.now) c.before.enum-told2.given.1 c.before.before.before.kind-of.ensures
+plain_requires c κs = subst (Kinded c.args.line.now) c.in-Plain.is c.kind_of.ensures
 
 sparse_requires : tie.Need-sparse-requires
-sparse_requires c κs = subst (Kinded c.before.before.before.before.before.args.line.now) c.before.enum-told3.given.1 c.before.before.before.kind-of.ensures
+sparse_requires c κs = subst (Kinded c.args.line.now) c.in-Sparse.is c.kind_of.ensures
 
-returns : tie.Need-returns
+returns : tie.Need-returns-in-Strange
 returns c =
-    let a = c.before.before.before.before.before.args in
-    read_strange a.line.now a.digits.now (subst (Kinded a.line.now) c.before.enum_told.given.1 c.before.before.before.kind-of.ensures) c.refused.ensures
+    let a = c.args in
+    read_strange a.line.now a.digits.now (subst (Kinded a.line.now) c.in-Strange.is c.kind_of.ensures) c.refused.ensures
 
-returns_2 : tie.Need-returns-2
+returns_2 : tie.Need-returns-in-Stated
 returns_2 c =
-    let a = c.before.before.before.before.before.args in
-    let k = subst (Kinded a.line.now) c.before.b.given.1 c.before.before.before.kind-of.ensures in
+    let a = c.args in
+    let k = subst (Kinded a.line.now) c.in-Stated.is c.kind_of.ensures in
     read_stated a.line.now a.digits.now k.0 k.1
 
 pub read_spec : {M : Type 1} → statement M

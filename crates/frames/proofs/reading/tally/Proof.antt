@@ -14,50 +14,50 @@ use Rattle.frames.proofs.Counting.{Passed, pass_none, pass_weight, pass_more, pa
 use Rattle.frames.proofs.reading.tally.Statement.{statement}
 use Rattle.frames.proofs.reading.tally.Tie as tie
 
-abbrev invariant_loop : tie.invariant_loop
+abbrev invariant_loop : tie.invariant-loop-i
 invariant_loop line n sum₀ i₀ sum i = Passed (digits_in (bytes_of line)) sum.weight sum.top i
 
-abbrev decreases_loop : tie.decreases_loop
+abbrev decreases_loop : tie.decreases-loop-i
 decreases_loop line n sum₀ i₀ sum i = n - i
 
-sub_n : tie.Need-overflow-sub-n invariant_loop decreases_loop
-sub_n c = omega (arith, bytes_count c.before.args.line.now, c.before.requires.long)
+sub_n : tie.Need-overflow_sub-n invariant_loop decreases_loop
+sub_n c = omega (arith, bytes_count c.args.line.now, c.requires.long)
 
-loop_holds : tie.Need-loop-init invariant_loop decreases_loop
-loop_holds c = pass_none (digits_in (bytes_of c.before.args.line.now))
+loop_holds : tie.Need-loop-i-init invariant_loop decreases_loop
+loop_holds c = pass_none (digits_in (bytes_of c.args.line.now))
 
-add_digit_at : tie.Need-overflow-add-digit-at invariant_loop decreases_loop
+add_digit_at : tie.Need-overflow_add-i invariant_loop decreases_loop
 add_digit_at c = omega arith
 
-digit_at_requires : tie.Need-digit-at-requires invariant_loop decreases_loop
-digit_at_requires c κs = let s = c.before.before.before in (pairs_hex s.args.line.now s.requires.pairs, omega arith)
+digit_at_requires : tie.Need-digit_at-requires invariant_loop decreases_loop
+digit_at_requires c κs = let s = c in (pairs_hex s.args.line.now s.requires.pairs, omega arith)
 
-counted_requires : tie.Need-counted-requires invariant_loop decreases_loop
+counted_requires : tie.Need-counted-sum-requires invariant_loop decreases_loop
 counted_requires c κs =
-    let l = c.before.before.loop in
-    omega (arith, pass_weight (digits_in (bytes_of c.before.before.before.before.args.line.now)) l.sum.weight l.sum.top l.i l.invariant)
+    let l = c.loop-i in
+    omega (arith, pass_weight (digits_in (bytes_of c.args.line.now)) l.sum.weight l.sum.top l.i l.invariant)
 
-add_i : tie.Need-overflow-add-i invariant_loop decreases_loop
+add_i : tie.Need-overflow_add-i-in-loop-i invariant_loop decreases_loop
 add_i c = omega arith
 
-loop_less : tie.Need-loop-smaller invariant_loop decreases_loop
+loop_less : tie.Need-loop-i-smaller invariant_loop decreases_loop
 loop_less c = omega arith
 
-loop_again : tie.Need-loop-preserved invariant_loop decreases_loop
+loop_again : tie.Need-loop-i-preserved invariant_loop decreases_loop
 loop_again c =
-    let s = c.before.before.before.before.before in
+    let s = c in
     let line = s.args.line.now in
-    let l = c.before.before.before.loop in
-    let r = c.counted.result in
+    let l = c.loop-i in
+    let r = c.counted-sum.result in
     let h : l.i < length (digits_in (bytes_of line)) = omega (arith, plain_count line s.requires) in
-    let digit = to_z-of_z {w = w8} (record { sfits = c.before.digit_at.type-inv }) ∙ c.before.digit_at.ensures ∙ plain_digit line s.requires l.i h in
-    pass_more (digits_in (bytes_of line)) l.sum.weight l.sum.top l.i r.weight r.top l.invariant h digit c.counted.ensures
+    let digit = to_z-of_z {w = w8} (record { sfits = c.digit_at.type_inv }) ∙ c.digit_at.ensures ∙ plain_digit line s.requires l.i h in
+    pass_more (digits_in (bytes_of line)) l.sum.weight l.sum.top l.i r.weight r.top l.invariant h digit c.counted-sum.ensures
 
 returns : tie.Need-returns invariant_loop decreases_loop
 returns c =
-    let s = c.before.before.before in
+    let s = c in
     let line = s.args.line.now in
-    let l = c.before.loop in
+    let l = c.loop-i in
     pass_all (digits_in (bytes_of line)) l.sum.weight l.sum.top l.i l.invariant (omega (arith, plain_count line s.requires))
 
 pub tally_spec : {M : Type 1} → statement M

@@ -10,25 +10,25 @@ use borrow.Author.Rules.{rules}
 use Rattle.frames.proofs.writing.fill.Statement.{statement}
 use Rattle.frames.proofs.writing.fill.Tie as tie
 
-fill_plain_requires : tie.Need-fill-plain-requires
+fill_plain_requires : tie.Need-fill_plain-requires
 fill_plain_requires c κs =
-    let s = c.before.before.before.before in
-    (s.requires.0, subst (λ v. line_length (version_of v) s.args.digits.now ≤ length s.args.out.now) c.before.enum_told.given.1 s.requires.1.1)
+    let s = c in
+    (s.requires.0, subst (λ v. line_length (version_of v) s.args.digits.now ≤ length s.args.out.now) c.in-Plain.is s.requires.1.1)
 
-fill_sparse_requires : tie.Need-fill-sparse-requires
+fill_sparse_requires : tie.Need-fill_sparse-requires
 fill_sparse_requires c κs =
-    let s = c.before.before.before.before in
-    (s.requires.0, (s.requires.1.0, subst (λ v. line_length (version_of v) s.args.digits.now ≤ length s.args.out.now) c.before.enum-told2.given.1 s.requires.1.1))
+    let s = c in
+    (s.requires.0, (s.requires.1.0, subst (λ v. line_length (version_of v) s.args.digits.now ≤ length s.args.out.now) c.in-Sparse.is s.requires.1.1))
 
-returns : tie.Need-returns
+returns : tie.Need-returns-in-Plain
 returns c =
-    let a = c.before.before.before.before.before.before.before.args in
-    c.before.before.fill-plain.ensures ∙ sym (ap (λ v. sets a.out.now 0 (line_of (version_of v) a.digits.now)) c.before.before.before.before.enum_told.given.1)
+    let a = c.args in
+    c.fill_plain.ensures ∙ sym (ap (λ v. sets a.out.now 0 (line_of (version_of v) a.digits.now)) c.in-Plain.is)
 
-returns_2 : tie.Need-returns-2
+returns_2 : tie.Need-returns-in-Sparse
 returns_2 c =
-    let a = c.before.before.before.before.before.before.before.args in
-    c.before.before.fill-sparse.ensures ∙ sym (ap (λ v. sets a.out.now 0 (line_of (version_of v) a.digits.now)) c.before.before.before.before.enum-told2.given.1)
+    let a = c.args in
+    c.fill_sparse.ensures ∙ sym (ap (λ v. sets a.out.now 0 (line_of (version_of v) a.digits.now)) c.in-Sparse.is)
 
 pub fill_spec : {M : Type 1} → statement M
 fill_spec =

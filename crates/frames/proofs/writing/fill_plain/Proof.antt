@@ -7,10 +7,10 @@ use Rattle.frames.proofs.writing.fill_plain.Tie as tie
 
 returns : tie.Need-returns
 returns c =
-    let start = c.before.before.before.before.before.before.before.before.before.before.before.before.before.before.before.before.before in
+    let start = c in
     let a = start.args in
     let ds = a.digits.now in
-    let all = plain_fields a.out.now a.weight a.top (digit_bytes ds) c.before.before.before.before.before.before.before.before.before.before.before.before.before.before.put.ensures c.before.before.before.before.before.before.before.before.before.before.put-number.ensures c.before.before.before.before.before.before.put-number2.ensures c.before.before.put_digits.ensures in
+    let all = plain_fields a.out.now a.weight a.top (digit_bytes ds) c.put.ensures c.put_number.ensures c.put_number-2.ensures c.put_digits.ensures in
     rw (← start.requires.0.0, ← start.requires.0.1) all
 
 pub fill_plain_spec : {M : Type 1} → statement M

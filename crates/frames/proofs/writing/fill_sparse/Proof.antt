@@ -8,11 +8,11 @@ use Rattle.frames.proofs.writing.fill_sparse.Tie as tie
 
 returns : tie.Need-returns
 returns c =
-    let start = c.before.before.before.before.before.before.before.before.before.before.before.before.before.before.before.before.before.before.before.before.before in
+    let start = c in
     let a = start.args in
     let ds = a.digits.now in
-    let all = sparse_fields a.out.now a.weight a.top (length ds) (entry_bytes (entries_from 0 ds)) c.before.before.before.before.before.before.before.before.before.before.before.before.before.before.before.before.before.before.put.ensures c.before.before.before.before.before.before.before.before.before.before.before.before.before.before.put-number.ensures c.before.before.before.before.before.before.before.before.before.before.put-number2.ensures
-    c.before.before.before.before.before.before.put-number3.ensures c.before.before.put_entries.ensures in
+    let all = sparse_fields a.out.now a.weight a.top (length ds) (entry_bytes (entries_from 0 ds)) c.put.ensures c.put_number.ensures c.put_number-2.ensures
+    c.put_number-3.ensures c.put_entries.ensures in
     rw (← start.requires.0.0, ← start.requires.0.1) all
 
 pub fill_sparse_spec : {M : Type 1} → statement M

@@ -7,13 +7,13 @@ use borrow.Author.Rules.{rules}
 use Rattle.frames.proofs.writing.line_length.Statement.{statement}
 use Rattle.frames.proofs.writing.line_length.Tie as tie
 
-returns : tie.Need-returns
-returns c = sym (ap (λ v. line_length (version_of v) c.before.before.args.digits.now) c.enum_told.given.1)
+returns : tie.Need-returns-in-Plain
+returns c = sym (ap (λ v. line_length (version_of v) c.args.digits.now) c.in-Plain.is)
 
-returns_2 : tie.Need-returns-2
+returns_2 : tie.Need-returns-in-Sparse
 returns_2 c =
-    let s = c.before.before in
-    omega (arith, s.requires.0) ∙ sym (ap (λ v. line_length (version_of v) s.args.digits.now) c.enum-told2.given.1)
+    let s = c in
+    omega (arith, s.requires.0) ∙ sym (ap (λ v. line_length (version_of v) s.args.digits.now) c.in-Sparse.is)
 
 pub line_length_spec : {M : Type 1} → statement M
 line_length_spec =

@@ -15,48 +15,48 @@ use Rattle.frames.proofs.Entering.{entered, entered_then, weight_then}
 use Rattle.frames.proofs.writing.put_entries.Statement.{statement}
 use Rattle.frames.proofs.writing.put_entries.Tie as tie
 
-abbrev invariant_loop : tie.invariant_loop
+abbrev invariant_loop : tie.invariant-loop-i
 invariant_loop digits from out₀ at₀ i₀ out at i =
     (i ≤ length digits) × (length out ≡ length out₀) × (at + 6 * weight (drop i digits) ≡ from + 6 * weight digits)
     × (sets out at (entered i (drop i digits)) ≡ sets out₀ from (entered 0 digits))
 
-abbrev decreases_loop : tie.decreases_loop
+abbrev decreases_loop : tie.decreases-loop-i
 decreases_loop digits from out₀ at₀ i₀ out at i = length digits - i
 
-loop_holds : tie.Need-loop-init invariant_loop decreases_loop
+loop_holds : tie.Need-loop-i-init invariant_loop decreases_loop
 loop_holds c = (omega arith, refl, refl, refl)
 
-shared_slice_copy_out_put_entry : tie.Need-shared-slice-copy-out-put-entry invariant_loop decreases_loop
+shared_slice_copy_out_put_entry : tie.Need-bounds-digits-i invariant_loop decreases_loop
 shared_slice_copy_out_put_entry c = omega arith
 
-cast_put_entry : tie.Need-overflow-cast-put-entry invariant_loop decreases_loop
+cast_put_entry : tie.Need-overflow_cast-i invariant_loop decreases_loop
 cast_put_entry c = omega arith
 
-put_entry_requires : tie.Need-put-entry-requires invariant_loop decreases_loop
+put_entry_requires : tie.Need-put_entry-at-requires invariant_loop decreases_loop
 put_entry_requires c κs =
-    let a = c.before.before.before.before.before.args in
-    let l = c.before.before.before.loop in
+    let a = c.args in
+    let l = c.loop-i in
     let ds = a.digits.now in
-    let back = to_z-of_z {w = w8} {z = get_or ds l.i (pos 0)} (record { sfits = c.before.put-entry-arg.given }) in
+    let back = to_z-of_z {w = w8} {z = get_or ds l.i (pos 0)} (record { sfits = c.put_entry-arg-1.given }) in
     omega (arith, ap nonzero back, weight_then ds l.i (omega arith))
 
-add_i : tie.Need-overflow-add-i invariant_loop decreases_loop
+add_i : tie.Need-overflow_add-i invariant_loop decreases_loop
 add_i c = omega arith
 
-loop_less : tie.Need-loop-smaller invariant_loop decreases_loop
+loop_less : tie.Need-loop-i-smaller invariant_loop decreases_loop
 loop_less c = omega arith
 
-loop_again : tie.Need-loop-preserved invariant_loop decreases_loop
+loop_again : tie.Need-loop-i-preserved invariant_loop decreases_loop
 loop_again c =
-    let a = c.before.before.before.before.before.before.before.before.args in
-    let l = c.before.before.before.before.before.before.loop in
-    let p = c.before.before.put-entry in
+    let a = c.args in
+    let l = c.loop-i in
+    let p = c.put_entry-at in
     let ds = a.digits.now in
     let d = get_or ds l.i (pos 0) in
-    let back = to_z-of_z {w = w8} {z = d} (record { sfits = c.before.before.before.before.put-entry-arg.given }) in
+    let back = to_z-of_z {w = w8} {z = d} (record { sfits = c.put_entry-arg-1.given }) in
     let next : p.result ≡ l.at + 6 * nonzero d = p.ensures.next_is ∙ ap (λ x. l.at + 6 * nonzero x) back in (
       omega arith,
-      p.auto.1.1.1.0 ∙ l.invariant.1,
+      p.auto.out ∙ l.invariant.1,
       omega (arith, weight_then ds l.i (omega arith)),
       ap (λ o. sets o p.result (entered (l.i + 1) (drop (l.i + 1) ds))) (p.ensures.out_is ∙ ap (λ x. sets l.out l.at (entered l.i (x ∷ []))) back)
           ∙ ap (λ k. sets (sets l.out l.at (entered l.i (d ∷ []))) k (entered (l.i + 1) (drop (l.i + 1) ds))) next
@@ -64,14 +64,14 @@ loop_again c =
           ∙ l.invariant.3,
     )
 
-same_length : tie.Need-same-length invariant_loop decreases_loop
-same_length c = c.before.loop.invariant.1
+same_length : tie.Need-shape_of-out invariant_loop decreases_loop
+same_length c = c.loop-i.invariant.1
 
 returns : tie.Need-returns invariant_loop decreases_loop
 unfolding written entry_bytes entries_from
 returns c =
-    let a = c.before.before.before.args in
-    let l = c.before.loop in
+    let a = c.args in
+    let l = c.loop-i in
     rw (drop_of_length-le a.digits.now {i = l.i} (omega arith)) at l.invariant.3
 
 pub put_entries_spec : {M : Type 1} → statement M

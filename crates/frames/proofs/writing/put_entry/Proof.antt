@@ -18,32 +18,32 @@ use borrow.Author.Rules.{rules}
 use Rattle.frames.proofs.writing.put_entry.Statement.{statement}
 use Rattle.frames.proofs.writing.put_entry.Tie as tie
 
-returns : tie.Need-returns
+returns : tie.Need-returns-then-digit-eq0
 returns c =
-    let s = c.before.before in
+    let s = c in
     let a = s.args in
-    enters_none a.digit a.place a.at a.out.now (nonzero_none (bits_none w8 a.digit s.ranges.digit c.if1.true))
+    enters_none a.digit a.place a.at a.out.now (nonzero_none (bits_none w8 a.digit s.ranges.digit c.if-digit-eq0.true))
 
-put_number_requires : tie.Need-put-number-requires
+put_number_requires : tie.Need-put_number-requires
 put_number_requires c κs =
-    let s = c.before.before.before in
-    let some : s.args.digit ≢ pos 0 = λ e. c.before.if1.false (ap (of_z w8) e) in
+    let s = c in
+    let some : s.args.digit ≢ pos 0 = λ e. c.if-digit-eq0.false (ap (of_z w8) e) in
     omega (arith, nonzero_one s.args.digit some)
 
 put_requires : tie.Need-put-requires
 put_requires c κs =
-    let s = c.before.before.before.before.before.before.before.before in
-    let some : s.args.digit ≢ pos 0 = λ e. c.before.before.before.before.before.before.if1.false (ap (of_z w8) e) in
-    omega (arith, nonzero_one s.args.digit some, c.before.before.before.before.put-number.auto.1.1.0)
+    let s = c in
+    let some : s.args.digit ≢ pos 0 = λ e. c.if-digit-eq0.false (ap (of_z w8) e) in
+    omega (arith, nonzero_one s.args.digit some, c.put_number.auto.out)
 
-returns_2 : tie.Need-returns-2
+returns_2 : tie.Need-returns
 returns_2 c =
-    let s = c.before.before.before.before.before.before.before.before.before.before.before in
+    let s = c in
     let a = s.args in
-    let some : a.digit ≢ pos 0 = λ e. c.before.before.before.before.before.before.before.before.before.if1.false (ap (of_z w8) e) in
-    let byte = c.before.before.before.before.byte_of.ensures ∙ ap byte_of (to_z-of_z s.ranges.digit) in
-    enters_one a.digit a.place a.at a.out.now (nonzero_one a.digit some) c.before.before.before.before.before.before.before.put-number.ensures
-    (c.before.before.put.ensures ∙ ap (λ x. sets c.before.before.before.before.before.before.before.put-number.new.1.1.0 (a.at + 4) (pair x [])) byte)
+    let some : a.digit ≢ pos 0 = λ e. c.if-digit-eq0.false (ap (of_z w8) e) in
+    let byte = c.byte_of.ensures ∙ ap byte_of (to_z-of_z s.ranges.digit) in
+    enters_one a.digit a.place a.at a.out.now (nonzero_one a.digit some) c.put_number.ensures
+    (c.put.ensures ∙ ap (λ x. sets c.put_number.new.out (a.at + 4) (pair x [])) byte)
 
 pub put_entry_spec : {M : Type 1} → statement M
 put_entry_spec =

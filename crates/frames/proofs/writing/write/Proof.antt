@@ -7,34 +7,34 @@ use borrow.Author.Rules.{rules}
 use Rattle.frames.proofs.writing.write.Statement.{statement}
 use Rattle.frames.proofs.writing.write.Tie as tie
 
-returns : tie.Need-returns
-returns c = let a = c.before.before.args in write_long (version_of a.version) a.digits.now a.out.now (omega arith)
+returns : tie.Need-returns-then-digits-gt-MOST_PLACES
+returns c = let a = c.args in write_long (version_of a.version) a.digits.now a.out.now (omega arith)
 
-returns_2 : tie.Need-returns-2
+returns_2 : tie.Need-returns-then-out-length
 returns_2 c =
-    let a = c.before.before.before.before.before.args in
-    write_short (version_of a.version) a.digits.now a.out.now (omega arith) (omega (arith, c.before.line_length_is.ensures))
+    let a = c.args in
+    write_short (version_of a.version) a.digits.now a.out.now (omega arith) (omega (arith, c.before.line_length-length.ensures))
 
-cast_fill : tie.Need-overflow-cast-fill
-cast_fill c = omega (arith, c.top.ensures, top_le c.before.before.before.before.before.before.args.digits.now)
+cast_fill : tie.Need-overflow_cast-top
+cast_fill c = omega (arith, c.top.ensures, top_le c.args.digits.now)
 
 fill_requires : tie.Need-fill-requires
 fill_requires c κs =
-    let l = c.before.before.before in
-    ((l.before.weight.ensures, c.before.top.ensures), (omega arith, omega (arith, l.line_length_is.ensures)))
+    let l = c in
+    ((l.weight-weight.ensures, c.top.ensures), (omega arith, omega (arith, l.line_length-length.ensures)))
 
 -- the line's length is a number of two bytes
-cast_t9 : tie.Need-overflow-cast-t9
+cast_t9 : tie.Need-overflow_cast-result
 cast_t9 c =
-    let l = c.before.before.before.before.before.before in
-    let a = l.before.before.before.before.args in
-    omega (arith, l.line_length_is.ensures, length_most (version_of a.version) a.digits.now (omega arith))
+    let l = c in
+    let a = l.args in
+    omega (arith, l.line_length-length.ensures, length_most (version_of a.version) a.digits.now (omega arith))
 
-returns_3 : tie.Need-returns-3
+returns_3 : tie.Need-returns
 returns_3 c =
-    let l = c.before.before.before.before.before.before in
-    let a = l.before.before.before.before.args in
-    write_whole (version_of a.version) a.digits.now a.out.now (omega arith) (omega (arith, l.line_length_is.ensures)) l.line_length_is.ensures c.before.before.fill.ensures
+    let l = c in
+    let a = l.args in
+    write_whole (version_of a.version) a.digits.now a.out.now (omega arith) (omega (arith, l.line_length-length.ensures)) l.line_length-length.ensures c.fill.ensures
 
 pub write_spec : {M : Type 1} → statement M
 write_spec =

@@ -13,47 +13,47 @@ use Rattle.forms.proofs.Strings.{top_same, top_next}
 use Rattle.places.proofs.marks.top.Statement.{statement}
 use Rattle.places.proofs.marks.top.Tie as tie
 
-abbrev invariant_loop : tie.invariant_loop
+abbrev invariant_loop : tie.invariant-loop-above
 invariant_loop digits above₀ above = (above ≤ length digits) × (top (take above digits) ≡ top digits)
 
-abbrev decreases_loop : tie.decreases_loop
+abbrev decreases_loop : tie.decreases-loop-above
 decreases_loop digits above₀ above = above
 
-loop_holds : tie.Need-loop-init invariant_loop decreases_loop
+loop_holds : tie.Need-loop-above-init invariant_loop decreases_loop
 loop_holds c = (omega arith, ap top (take-length c.args.digits.now))
 
-sub_at : tie.Need-overflow-sub-at invariant_loop decreases_loop
+sub_at : tie.Need-overflow_sub-at invariant_loop decreases_loop
 sub_at c = omega arith
 
-shared_slice_copy_out_digit : tie.Need-shared-slice-copy-out-digit invariant_loop decreases_loop
+shared_slice_copy_out_digit : tie.Need-bounds-digits-at invariant_loop decreases_loop
 shared_slice_copy_out_digit c = omega arith
 
-returns : tie.Need-returns invariant_loop decreases_loop
+returns : tie.Need-returns-then-digit-ne0 invariant_loop decreases_loop
 returns c =
-    let ds = c.before.before.before.before.args.digits.now in
-    let l = c.before.before.before.loop in
+    let ds = c.args.digits.now in
+    let l = c.loop-above in
     let at = l.above - 1 in
     let e : at + 1 ≡ l.above = omega arith in
-    let n = top_next ds at (omega arith) (bits_some w8 (get_or ds at (pos 0)) c.if1.true) in
+    let n = top_next ds at (omega arith) (bits_some w8 (get_or ds at (pos 0)) c.if-digit-ne0.true) in
     sym e ∙ sym n ∙ ap (λ t. top (take t ds)) e ∙ l.invariant.1
 
-loop_less : tie.Need-loop-smaller invariant_loop decreases_loop
+loop_less : tie.Need-loop-above-smaller invariant_loop decreases_loop
 loop_less c = omega arith
 
-loop_again : tie.Need-loop-preserved invariant_loop decreases_loop
+loop_again : tie.Need-loop-above-preserved invariant_loop decreases_loop
 loop_again c =
-    let ds = c.before.before.before.before.args.digits.now in
-    let l = c.before.before.before.loop in
+    let ds = c.args.digits.now in
+    let l = c.loop-above in
     let at = l.above - 1 in
     let e : at + 1 ≡ l.above = omega arith in
-    let s = top_same ds at (omega arith) (bits_none w8 (get_or ds at (pos 0)) (sfits_of c.before.digit.given) c.if1.false) in
+    let s = top_same ds at (omega arith) (bits_none w8 (get_or ds at (pos 0)) (sfits_of c.digit-1.given) c.if-digit-ne0.false) in
     (omega arith, sym s ∙ ap (λ t. top (take t ds)) e ∙ l.invariant.1)
 
-returns_2 : tie.Need-returns-2 invariant_loop decreases_loop
+returns_2 : tie.Need-returns invariant_loop decreases_loop
 unfolding top
 returns_2 c =
-    let z : c.before.loop.above ≡ 0 = omega arith in
-    ap (λ t. top (take t c.before.before.args.digits.now)) (sym z) ∙ c.before.loop.invariant.1
+    let z : c.loop-above.above ≡ 0 = omega arith in
+    ap (λ t. top (take t c.args.digits.now)) (sym z) ∙ c.loop-above.invariant.1
 
 pub top_spec : {M : Type 1} → statement M
 top_spec = tie.close (tie.spec invariant_loop decreases_loop loop_holds sub_at shared_slice_copy_out_digit returns loop_less loop_again returns_2)

@@ -8,7 +8,7 @@ use Rattle.laws.proofs.Shifts.{one_shifted}
 use Rattle.places.proofs.opened.below.Statement.{statement}
 use Rattle.places.proofs.opened.below.Tie as tie
 
-rem_result : tie.Need-nonzero-rem-result
+rem_result : tie.Need-nonzero_rem-result
 rem_result c = omega (arith, one_shifted c.args.at 64 (omega arith), pow_pos c.args.at)
 
 returns : tie.Need-returns

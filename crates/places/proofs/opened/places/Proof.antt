@@ -10,7 +10,7 @@ use Rattle.places.proofs.Openings.{low_shifted}
 use Rattle.places.proofs.opened.places.Statement.{statement}
 use Rattle.places.proofs.opened.places.Tie as tie
 
-rem_result : tie.Need-nonzero-rem-result
+rem_result : tie.Need-nonzero_rem-result
 rem_result c =
     let a = c.args in
     omega (arith, one_shifted (a.count + a.tail) 64 (omega arith), pow_pos (a.count + a.tail))

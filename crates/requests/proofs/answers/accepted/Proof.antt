@@ -10,22 +10,22 @@ use borrow.Author.Rules.{rules}
 use Rattle.requests.proofs.answers.accepted.Statement.{statement}
 use Rattle.requests.proofs.answers.accepted.Tie as tie
 
-slice_write_out : tie.Need-slice-write-out
+slice_write_out : tie.Need-bounds-out-end
 slice_write_out c =
-    let f = c.before.before.before in
-    omega (arith, c.line_length_is.ensures, f.fill.auto.1.1.1.1.0, f.before.before.before.requires.1.1)
+    let f = c in
+    omega (arith, c.line_length-end.ensures, f.fill.auto.out, f.requires.1.1)
 
-same_length : tie.Need-same-length
-same_length c = simp length-set c.before.before.before.fill.auto.1.1.1.1.0
+same_length : tie.Need-shape_of-out
+same_length c = simp length-set c.fill.auto.out
 
 returns : tie.Need-returns
 returns c =
-    let f = c.before.before.before in
-    let s = f.before.before.before in
+    let f = c in
+    let s = f in
     let a = s.args in
     let v = version_of a.version in
     let end = line_length_is v a.digits.now in
-    rw f.fill.ensures (wrote a.out.now (line_of v a.digits.now) c.line_length_is.result (c.line_length_is.ensures ∙ sym end) (omega (arith, end, s.requires.1.1)))
+    rw f.fill.ensures (wrote a.out.now (line_of v a.digits.now) c.line_length-end.result (c.line_length-end.ensures ∙ sym end) (omega (arith, end, s.requires.1.1)))
 
 pub accepted_spec : {M : Type 1} → statement M
 accepted_spec =

@@ -11,8 +11,8 @@ use Rattle.requests.proofs.answers.refused.Tie as tie
 returns : tie.Need-returns
 unfolding written
 returns c =
-    let a = c.before.before.before.before.before.args in
-    rw c.before.before.put.ensures (wrote a.out.now (pair a.number []) 2 refl (omega arith))
+    let a = c.args in
+    rw c.put.ensures (wrote a.out.now (pair a.number []) 2 refl (omega arith))
 
 pub refused_spec : {M : Type 1} → statement M
 refused_spec = tie.close (tie.spec (λ c κs. search rules) (λ c. search rules) (λ c. search rules) returns)

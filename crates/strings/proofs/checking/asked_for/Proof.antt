@@ -5,10 +5,10 @@ use borrow.Author.Rules.{rules}
 use Rattle.strings.proofs.checking.asked_for.Statement.{statement}
 use Rattle.strings.proofs.checking.asked_for.Tie as tie
 
-cast_bytes : tie.Need-overflow-cast-bytes
-cast_bytes c = omega (arith, c.shared-slice-known2.given 0)
+cast_bytes : tie.Need-overflow_cast-bytes
+cast_bytes c = omega (arith, c.shared_slice_known-2-1.given 0)
 
-slice_aggregate_made : tie.Need-slice-aggregate-made
+slice_aggregate_made : tie.Need-slice_bounds-made-end-3
 slice_aggregate_made c = simp length-take (omega arith)
 
 made_requires : tie.Need-made-requires

@@ -6,10 +6,10 @@ use borrow.Author.Rules.{rules}
 use Rattle.strings.proofs.reading.made.Statement.{statement}
 use Rattle.strings.proofs.reading.made.Tie as tie
 
-abbrev invariant_loop : tie.invariant_loop
+abbrev invariant_loop : tie.invariant-loop-k
 invariant_loop width scalar calls out₀ state₀ at₀ k₀ out state at k = (k ≤ calls) × (at ≡ 2 + 4 * k) × (length out ≡ length out₀)
 
-abbrev decreases_loop : tie.decreases_loop
+abbrev decreases_loop : tie.decreases-loop-k
 decreases_loop width scalar calls out₀ state₀ at₀ k₀ out state at k = calls - k
 
 pub made_spec : {M : Type 1} → statement M

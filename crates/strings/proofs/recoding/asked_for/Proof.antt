@@ -5,20 +5,20 @@ use borrow.Author.Rules.{rules}
 use Rattle.strings.proofs.recoding.asked_for.Statement.{statement}
 use Rattle.strings.proofs.recoding.asked_for.Tie as tie
 
-cast_words : tie.Need-overflow-cast-words
-cast_words c = omega (arith, c.shared-slice-known2.given 2)
+cast_words : tie.Need-overflow_cast-words
+cast_words c = omega (arith, c.shared_slice_known-2-1.given 2)
 
-slice_aggregate_made : tie.Need-slice-aggregate-made
+slice_aggregate_made : tie.Need-slice_bounds-made-end-2
 slice_aggregate_made c = simp length-take (omega arith)
 
-slice_aggregate_made_2 : tie.Need-slice-aggregate-made-2
+slice_aggregate_made_2 : tie.Need-slice_bounds-made-end-3
 slice_aggregate_made_2 c = simp length-take (omega arith)
 
 made_requires : tie.Need-made-requires
 made_requires c κs = simp (length-take, length-drop) (omega arith)
 
-returns_5 : tie.Need-returns-5
-returns_5 c = omega (arith, simp length-take at c.before.before.before.before.made.ensures)
+returns_5 : tie.Need-returns
+returns_5 c = omega (arith, simp length-take at c.made.ensures)
 
 pub asked_for_spec : {M : Type 1} → statement M
 asked_for_spec =

@@ -6,10 +6,10 @@ use borrow.Author.Rules.{rules}
 use Rattle.strings.proofs.recoding.put_marks.Statement.{statement}
 use Rattle.strings.proofs.recoding.put_marks.Tie as tie
 
-abbrev invariant_loop : tie.invariant_loop
+abbrev invariant_loop : tie.invariant-loop-i
 invariant_loop marks at out₀ next₀ i₀ out next i = (i ≤ length marks) × (next ≡ at + 16 * i) × (length out ≡ length out₀)
 
-abbrev decreases_loop : tie.decreases_loop
+abbrev decreases_loop : tie.decreases-loop-i
 decreases_loop marks at out₀ next₀ i₀ out next i = length marks - i
 
 pub put_marks_spec : {M : Type 1} → statement M

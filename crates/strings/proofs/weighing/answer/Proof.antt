@@ -5,13 +5,13 @@ use borrow.Author.Rules.{rules}
 use Rattle.strings.proofs.weighing.answer.Statement.{statement}
 use Rattle.strings.proofs.weighing.answer.Tie as tie
 
-cast_bytes : tie.Need-overflow-cast-bytes
-cast_bytes c = omega (arith, c.shared-slice-known2.given 2)
+cast_bytes : tie.Need-overflow_cast-bytes
+cast_bytes c = omega (arith, c.shared_slice_known-2-1.given 2)
 
-slice_aggregate_made : tie.Need-slice-aggregate-made
+slice_aggregate_made : tie.Need-slice_bounds-made-end-4
 slice_aggregate_made c = simp length-take (omega arith)
 
-slice_aggregate_made_2 : tie.Need-slice-aggregate-made-2
+slice_aggregate_made_2 : tie.Need-slice_bounds-made-end-5
 slice_aggregate_made_2 c = simp length-take (omega arith)
 
 made_requires : tie.Need-made-requires

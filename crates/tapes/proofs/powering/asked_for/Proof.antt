@@ -5,20 +5,20 @@ use borrow.Author.Rules.{rules}
 use Rattle.tapes.proofs.powering.asked_for.Statement.{statement}
 use Rattle.tapes.proofs.powering.asked_for.Tie as tie
 
-slice_aggregate_made : tie.Need-slice-aggregate-made
+slice_aggregate_made : tie.Need-slice_bounds-made-end-2
 slice_aggregate_made c = simp length-take (omega arith)
 
-slice_aggregate_made_2 : tie.Need-slice-aggregate-made-2
+slice_aggregate_made_2 : tie.Need-slice_bounds-made-end-3
 slice_aggregate_made_2 c = simp length-take (omega arith)
 
-slice_aggregate_made_3 : tie.Need-slice-aggregate-made-3
+slice_aggregate_made_3 : tie.Need-slice_bounds-made-end-4
 slice_aggregate_made_3 c = simp length-take (omega arith)
 
 made_requires : tie.Need-made-requires
 made_requires c κs = simp (length-take, length-drop) (omega arith)
 
-returns_6 : tie.Need-returns-6
-returns_6 c = omega (arith, simp length-take at c.before.before.before.before.before.made.ensures)
+returns_6 : tie.Need-returns
+returns_6 c = omega (arith, simp length-take at c.made.ensures)
 
 pub asked_for_spec : {M : Type 1} → statement M
 asked_for_spec =

@@ -5,17 +5,17 @@ use borrow.Author.Rules.{rules}
 use Rattle.tapes.proofs.taping.asked_for.Statement.{statement}
 use Rattle.tapes.proofs.taping.asked_for.Tie as tie
 
-slice_aggregate_made : tie.Need-slice-aggregate-made
+slice_aggregate_made : tie.Need-slice_bounds-made-end-2
 slice_aggregate_made c = simp length-take (omega arith)
 
-slice_aggregate_made_2 : tie.Need-slice-aggregate-made-2
+slice_aggregate_made_2 : tie.Need-slice_bounds-made-end-3
 slice_aggregate_made_2 c = simp length-take (omega arith)
 
 made_requires : tie.Need-made-requires
 made_requires c κs = simp (length-take, length-drop) (omega arith)
 
-returns_4 : tie.Need-returns-4
-returns_4 c = omega (arith, simp length-take at c.before.before.before.before.made.ensures)
+returns_4 : tie.Need-returns
+returns_4 c = omega (arith, simp length-take at c.made.ensures)
 
 pub asked_for_spec : {M : Type 1} → statement M
 asked_for_spec =

@@ -7,14 +7,14 @@ use borrow.Author.Rules.{rules}
 use Rattle.tapes.proofs.taping.put_words.Statement.{statement}
 use Rattle.tapes.proofs.taping.put_words.Tie as tie
 
-abbrev invariant_loop : tie.invariant_loop
+abbrev invariant_loop : tie.invariant-loop-i
 invariant_loop words at out₀ next₀ i₀ out next i = (i ≤ length words) × (next ≡ at + 4 * i) × (length out ≡ length out₀)
 
-abbrev decreases_loop : tie.decreases_loop
+abbrev decreases_loop : tie.decreases-loop-i
 decreases_loop words at out₀ next₀ i₀ out next i = length words - i
 
-cast_number : tie.Need-overflow-cast-number invariant_loop decreases_loop
-cast_number c = omega (arith, c.shared-slice-known2.given c.before.before.loop.i)
+cast_number : tie.Need-overflow_cast-words invariant_loop decreases_loop
+cast_number c = omega (arith, c.shared_slice_known-in-loop-i-1.given c.loop-i.i)
 
 pub put_words_spec : {M : Type 1} → statement M
 put_words_spec =

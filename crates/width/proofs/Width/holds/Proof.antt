@@ -8,14 +8,14 @@ use Rattle.width.proofs.Width.holds.Statement.{statement}
 use Rattle.width.proofs.Width.holds.Tie as tie
 
 -- a signed argument goes to a call as its bits
-found : (c : tie.After-magnitude) → c.magnitude.result ≡ nat_abs c.before.args.d
-found c = c.magnitude.ensures ∙ ap nat_abs (to_z-of_z c.before.ranges.d)
+found : (c : tie.After-magnitude) → c.magnitude.result ≡ nat_abs c.args.d
+found c = c.magnitude.ensures ∙ ap nat_abs (to_z-of_z c.ranges.d)
 
-returns : tie.Need-returns
-returns c = let s = c.before.before in test_odd _ _ _ (found s.before) s.some.result s.some.ensures s.before.before.requires c.before.if1.true
+returns : tie.Need-returns-then-size-eq1
+returns c = let s = c.before.before in test_odd _ _ _ (found s.before) s.some-size.result s.some-size.ensures s.requires c.if-size-eq1.true
 
-returns_2 : tie.Need-returns-2
-returns_2 c = let s = c.before in test_even _ _ _ (found s.before) s.some.result s.some.ensures c.if1.false
+returns_2 : tie.Need-returns-else-size-eq1
+returns_2 c = let s = c.before in test_even _ _ _ (found s.before) s.some-size.result s.some-size.ensures c.if-size-eq1.false
 
 pub holds_spec : {M : Type 1} → statement M
 holds_spec = tie.close (tie.spec (λ c κs. search rules) (λ c κs. search rules) returns returns_2)

@@ -9,7 +9,7 @@ use Rattle.width.proofs.Width.table_start.Statement.{statement}
 use Rattle.width.proofs.Width.table_start.Tie as tie
 
 -- the smallest width's windows start at 0
-sub_result : tie.Need-overflow-sub-result
+sub_result : tie.Need-overflow_sub-result
 sub_result c =
     let b = c.args.self.bits in
     let least : 2 ^ 3 ≤ 2 ^ (b + 1) = pow_mono {i = 3} {j = b + 1} (omega arith) in
