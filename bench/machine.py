@@ -29,7 +29,7 @@ def members(path):
         with open(path, "rb") as file:
             data = file.read()
     except OSError as error:
-        refuse(f"{path}: {error.strerror}; `rt staticlib sarvundole` makes the archive")
+        refuse(f"{path}: {error.strerror}; `bin/run --archive` makes the archive")
     if data[:8] != b"!<arch>\n":
         return [data]
     found, at = [], 8
