@@ -45,6 +45,14 @@ def text_at(data, at):
     return data[at : data.index(b"\0", at)].decode()
 
 
+def table_leads(home, cited, filled, leads):
+    """Where the jump tables of a section lead: an entry holds how far its place lies from its table's start."""
+    starts = sorted({addend + 4 for _, symbol, addend in cited if symbol[2] == home})
+    for offset, symbol, addend in filled:
+        start = max((s for s in starts if s <= offset), default=None)
+        yield None if start is None else leads(symbol, addend - (offset - start))[0]
+
+
 def functions(path):
     """Each function's name, with the function."""
     found = {}
@@ -85,7 +93,7 @@ def functions(path):
             for low, length, name in parts:
                 code = data[sections[home][4] + low : sections[home][4] + low + length]
                 own = {o - low: leads(symbol, addend + 4) for o, symbol, addend in fills.get(home, []) if low <= o < low + length}
-                tables = [leads(sym, add)[0] for i, t in enumerate(title) if t == f".rodata.{name}" for _, sym, add in fills.get(i, []) if sym[2] in inside]
+                tables = [lead for i, t in enumerate(title) if t == f".rodata.{name}" for lead in table_leads(i, fills.get(home, []), fills.get(i, []), leads)]
                 if name in found:
                     refuse(f"{name} stands twice in {path}")
                 found[name] = Function(name, code, own, tables)

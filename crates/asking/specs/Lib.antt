@@ -1,2 +1,3 @@
 -- What the contracts of the calls' answers say.
 pub mod Room
+pub mod Printing

@@ -1,83 +1,127 @@
-// What a frame may ask for, and the numbers in its bytes, the high byte first.
-ghost use Rattle.std.specs.Prelude.{◌≡◌, true, ◌+◌, ◌*◌, ◌≤◌, ◌<◌, length};
+// What a frame asks for: its bytes are taken from the front, a number's high byte first.
+ghost use Rattle.std.specs.Prelude.{◌≡◌, ◌≤◌, length, IfSome};
 
+use crate::lent;
 use width::DigitSet;
 
-// The most places, mark words, tape words, multiples, scalar bytes, reader calls and characters of a line that the program has.
-pub const PLACES: usize = 600;
-
-pub const MARK_WORDS: usize = 12;
-
-pub const WORDS: usize = 1100;
-
-pub const MULTIPLES: usize = 140;
-
+// The most bytes of a scalar, and the most calls of a reader.
 pub const BYTES: usize = 80;
 
 pub const CALLS: usize = 700;
 
-pub const CHARACTERS: usize = 3300;
-
 // The bytes of the longest frame: that of a line to read, with its call and count of places before the characters.
-pub const MOST: usize = 3 + CHARACTERS;
+pub const MOST: usize = 3 + lent::CHARACTERS;
 
-fn wide(b: u8) -> u16
-    ensures { result < 256 }
-{
-    b as u16
+// How a frame gives a digit set: by a width, whose whole set it is, or by a width and a largest digit.
+#[derive(Clone, Copy)]
+pub enum SetForm {
+    Whole,
+    Between,
 }
 
-pub fn two(frame: &[u8], at: usize) -> u16
-    requires { at + 2 ≤ length frame.now }
+fn at_most(count: usize, most: usize) -> Option<usize>
+    ensures { IfSome result (λ n. n ≤ most) }
 {
-    256 * wide(frame[at]) + wide(frame[at + 1])
+    if count <= most { Some(count) } else { None }
 }
 
-pub fn four(frame: &[u8], at: usize) -> u32
-    requires { at + 4 ≤ length frame.now }
-{
-    65536 * (two(frame, at) as u32) + two(frame, at + 2) as u32
+// The bytes of a frame that are not taken yet. Each function gives nothing where they are not what it takes.
+#[derive(Clone, Copy)]
+pub struct Frame<'a> {
+    rest: &'a [u8],
 }
 
-// Where a set ends that starts at place `at`: a width alone, or a width and a largest digit.
-pub fn after(between: bool, at: usize) -> usize
-    requires { at ≤ 2 }
-    ensures { (at < result) × (result ≤ at + 2) × (between ≡ true → result ≡ at + 2) }
-{
-    if between { at + 2 } else { at + 1 }
-}
-
-// The set that stands there: without a largest digit it is the whole width's.
-pub fn set(between: bool, frame: &[u8], at: usize) -> DigitSet
-    requires { (at ≤ 2) × (at < length frame.now) × (between ≡ true → at + 2 ≤ length frame.now) }
-{
-    if between {
-        return DigitSet {
-            width: frame[at],
-            largest: frame[at + 1],
-        };
+impl<'a> Frame<'a> {
+    pub fn over(bytes: &'a [u8]) -> Frame<'a> {
+        Frame { rest: bytes }
     }
-    DigitSet::whole(frame[at])
+
+    // So many bytes.
+    pub fn bytes(&mut self, count: usize) -> Option<&'a [u8]>
+        ensures { IfSome result (λ s. length s.now ≡ count) }
+    {
+        let (bytes, rest) = self.rest.split_at_checked(count)?;
+        self.rest = rest;
+        Some(bytes)
+    }
+
+    pub fn byte(&mut self) -> Option<u8> {
+        let bytes = self.bytes(1)?;
+        Some(bytes[0])
+    }
+
+    pub fn two(&mut self) -> Option<u16> {
+        let bytes = self.bytes(2)?;
+        Some(u16::from_be_bytes([bytes[0], bytes[1]]))
+    }
+
+    pub fn four(&mut self) -> Option<u32> {
+        let bytes = self.bytes(4)?;
+        Some(u32::from_be_bytes([bytes[0], bytes[1], bytes[2], bytes[3]]))
+    }
+
+    // A number of one byte, or of two, that is at most so large.
+    pub fn short_count(&mut self, most: usize) -> Option<usize>
+        ensures { IfSome result (λ n. n ≤ most) }
+    {
+        at_most(usize::from(self.byte()?), most)
+    }
+
+    pub fn count(&mut self, most: usize) -> Option<usize>
+        ensures { IfSome result (λ n. n ≤ most) }
+    {
+        at_most(usize::from(self.two()?), most)
+    }
+
+    pub fn set(&mut self, form: SetForm) -> Option<DigitSet> {
+        let width = self.byte()?;
+        match form {
+            SetForm::Whole => Some(DigitSet::whole(width)),
+            SetForm::Between => {
+                let largest = self.byte()?;
+                Some(DigitSet { width, largest })
+            }
+        }
+    }
+
+    // All that is left, at most so many bytes.
+    pub fn rest(self, most: usize) -> Option<&'a [u8]>
+        ensures { IfSome result (λ s. length s.now ≤ most) }
+    {
+        if self.rest.len() <= most {
+            Some(self.rest)
+        } else {
+            None
+        }
+    }
+
+    // The same, as pairs.
+    pub fn pairs(self, most: usize) -> Option<&'a [[u8; 2]]>
+        ensures { IfSome result (λ s. length s.now ≤ most) }
+    {
+        let (pairs, odd) = self.rest.as_chunks::<2>();
+        if odd.is_empty() && pairs.len() <= most {
+            Some(pairs)
+        } else {
+            None
+        }
+    }
 }
 
 // Bytes as digits, in two's complement.
-pub fn digits(bytes: &[u8], digits: &mut [i8])
-    requires { length bytes.now ≡ length digits.old }
-{
-    let mut i = 0;
-    while i < digits.len() {
-        digits[i] = hexadecimal::digit_of(bytes[i]);
-        i += 1;
+pub fn digits(bytes: &[u8]) -> [i8; lent::PLACES] {
+    let mut digits = [lent::DIGIT; lent::PLACES];
+    for (digit, byte) in digits.iter_mut().zip(bytes) {
+        *digit = byte.cast_signed();
     }
+    digits
 }
 
 // Pairs of bytes as tape words.
-pub fn words(bytes: &[u8], words: &mut [u16])
-    requires { length bytes.now ≡ 2 * length words.old }
-{
-    let mut i = 0;
-    while i < words.len() {
-        words[i] = two(bytes, 2 * i);
-        i += 1;
+pub fn words(pairs: &[[u8; 2]]) -> [u16; lent::WORDS] {
+    let mut words = [lent::WORD; lent::WORDS];
+    for (word, pair) in words.iter_mut().zip(pairs) {
+        *word = u16::from_be_bytes(*pair);
     }
+    words
 }

@@ -1,41 +1,23 @@
-// The memory that is lent to calls, as it is before them. Each contract gives only the length, which lending a part needs.
-ghost use Rattle.std.specs.Prelude.{◌≡◌, length};
+// The memory that is lent to calls: how much the program has of each kind, and what each element holds before a call.
+pub const PLACES: usize = 600;
 
-use crate::asked;
+pub const DIGIT: i8 = 0x5A;
 
-pub fn digits() -> [i8; asked::PLACES]
-    ensures { 600 ≡ length result }
-{
-    [0x5A; asked::PLACES]
-}
+pub const MARK_WORDS: usize = 12;
 
-pub fn marks() -> [u64; asked::MARK_WORDS]
-    ensures { 12 ≡ length result }
-{
-    [0xA5A5_A5A5_A5A5_A5A5; asked::MARK_WORDS]
-}
+pub const MARKS: u64 = 0xA5A5_A5A5_A5A5_A5A5;
 
-pub fn words() -> [u16; asked::WORDS]
-    ensures { 1100 ≡ length result }
-{
-    [0xEEEE; asked::WORDS]
-}
+pub const WORDS: usize = 1100;
 
-pub fn line() -> [u8; asked::CHARACTERS]
-    ensures { 3300 ≡ length result }
-{
-    [0x2E; asked::CHARACTERS]
-}
+pub const WORD: u16 = 0xEEEE;
 
-pub fn multiples() -> [u32; asked::MULTIPLES]
-    ensures { 140 ≡ length result }
-{
-    [0xDEAD_BEEF; asked::MULTIPLES]
-}
+pub const CHARACTERS: usize = 3300;
+
+pub const CHARACTER: u8 = 0x2E;
+
+pub const MULTIPLES: usize = 140;
+
+pub const MULTIPLE: u32 = 0xDEAD_BEEF;
 
 // The powers of an inverse; those of a base are lent as multiples are.
-pub fn inverses() -> [u32; asked::MULTIPLES]
-    ensures { 140 ≡ length result }
-{
-    [0xC0DE_C0DE; asked::MULTIPLES]
-}
+pub const INVERSE: u32 = 0xC0DE_C0DE;

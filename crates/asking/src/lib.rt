@@ -1,4 +1,4 @@
-// What a line of the trial may ask for, the memory that is lent to its call, and how numbers are printed.
+// What a line of the trial asks for, the memory that is lent to its call, and how an answer is printed.
 #![tactic(auto)]
 
 pub mod asked;

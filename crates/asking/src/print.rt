@@ -1,54 +1,116 @@
-// Numbers written to lent memory. Each function writes from an index on and gives the index after what it wrote.
-ghost use Rattle.std.specs.Prelude.{◌≡◌, ◌+◌, ◌*◌, ◌≤◌, length};
+// An answer is printed to the front of lent memory, each byte as two hexadecimal characters.
+ghost use Rattle.std.specs.Prelude.{◌≡◌, ℕ, ◌*◌, length};
+ghost use Rattle.asking.specs.Printing.{Room, Wrote};
 
-use crate::asked;
+use crate::lent;
 
 // The longest answer, its line feed counted: that of two scalars together, where all the places and words that the program has are lent.
-pub const MOST: usize = 2 * (13 + 2 * asked::PLACES + 2 * asked::WORDS) + 1;
+pub const MOST: usize = 2 * (13 + 2 * lent::PLACES + 2 * lent::WORDS) + 1;
 
-// A number of so many bytes, the high byte first.
-pub fn number(x: u64, bytes: usize, at: usize, out: &mut [u8]) -> usize
-    requires { at + 2 * bytes ≤ length out.old }
-    ensures { result ≡ at + 2 * bytes }
-{
-    let mut rest = x;
-    let mut k = 2 * bytes;
-    while 0 < k {
-        k -= 1;
-        out[at + k] = hexadecimal::capital((rest % 16) as u8);
-        rest /= 16;
+// The memory, and where the next character goes.
+#[derive(Drop)]
+pub struct Printer<'a> {
+    out: &'a mut [u8],
+    end: usize,
+}
+
+impl<'a> Printer<'a> {
+    pub fn over(out: &'a mut [u8]) -> Printer<'a>
+        ensures same_memory { result.out.ghost_name ≡ out.entry.ghost_name }
+        ensures at_front { result.end ≡ 0 }
+        ensures all_room { length result.out.now ≡ length out.old }
+    {
+        Printer { out, end: 0 }
     }
-    at + 2 * bytes
-}
 
-pub fn digit(d: i8, at: usize, out: &mut [u8]) -> usize
-    requires { at + 2 ≤ length out.old }
-    ensures { result ≡ at + 2 }
-{
-    number(hexadecimal::byte_of(d) as u64, 1, at, out)
-}
-
-// A string.
-pub fn put_digits(digits: &[i8], at: usize, out: &mut [u8]) -> usize
-    requires { at + 2 * length digits.now ≤ length out.old }
-    ensures { result ≡ at + 2 * length digits.now }
-{
-    let mut next = at;
-    let mut i = 0;
-    while i < digits.len() {
-        next = digit(digits[i], next, out);
-        i += 1;
+    // How many characters are written.
+    pub fn end(&self) -> usize
+        ensures { result ≡ self.now.end }
+    {
+        self.end
     }
-    next
+
+    fn byte(&mut self, byte: u8)
+        requires { Room self.old 2 }
+        ensures { Wrote self.old self.new 2 }
+    {
+        self.out[self.end] = hexadecimal::capital(byte / 16);
+        self.out[self.end + 1] = hexadecimal::capital(byte % 16);
+        self.end += 2;
+    }
+
+    fn bytes<const N: usize>(&mut self, bytes: [u8; N])
+        requires { Room self.old (2 * N) }
+        ensures { Wrote self.old self.new (2 * N) }
+    {
+        for byte in bytes {
+            self.byte(byte);
+        }
+    }
+
+    pub fn number<T: Number>(&mut self, number: T)
+        requires { Room self.old (2 * T.size) }
+        ensures { Wrote self.old self.new (2 * T.size) }
+    {
+        number.print(self);
+    }
+
+    pub fn numbers<T: Number>(&mut self, numbers: &[T])
+        requires { Room self.old (2 * T.size * length numbers.now) }
+        ensures { Wrote self.old self.new (2 * T.size * length numbers.now) }
+    {
+        for number in numbers {
+            self.number(*number);
+        }
+    }
 }
 
-// A refusal's number and its place, and two counts, at the front.
-pub fn fields(refusal: u8, place: u16, first: u16, second: u16, out: &mut [u8]) -> usize
-    requires { 14 ≤ length out.old }
-    ensures { result ≡ 14 }
-{
-    let at = number(refusal as u64, 1, 0, out);
-    let at = number(place as u64, 2, at, out);
-    let at = number(first as u64, 2, at, out);
-    number(second as u64, 2, at, out)
+// A number is printed as all the bytes of its type, the high one first.
+pub trait Number: Copy {
+    ghost size: { ℕ };
+
+    fn print(self, printer: &mut Printer)
+        requires { Room printer.old (2 * size) }
+        ensures { Wrote printer.old printer.new (2 * size) };
+}
+
+impl Number for u8 {
+    ghost size = { 1 };
+
+    fn print(self, printer: &mut Printer) {
+        printer.byte(self);
+    }
+}
+
+impl Number for u16 {
+    ghost size = { 2 };
+
+    fn print(self, printer: &mut Printer) {
+        printer.bytes(self.to_be_bytes());
+    }
+}
+
+impl Number for u32 {
+    ghost size = { 4 };
+
+    fn print(self, printer: &mut Printer) {
+        printer.bytes(self.to_be_bytes());
+    }
+}
+
+impl Number for u64 {
+    ghost size = { 8 };
+
+    fn print(self, printer: &mut Printer) {
+        printer.bytes(self.to_be_bytes());
+    }
+}
+
+// A digit, in two's complement.
+impl Number for i8 {
+    ghost size = { 1 };
+
+    fn print(self, printer: &mut Printer) {
+        printer.byte(self.cast_unsigned());
+    }
 }

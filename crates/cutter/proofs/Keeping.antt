@@ -50,23 +50,21 @@ module _ (characters line : List ℕ) (kept count : ℕ) (copy : List ℕ) (few 
         front_is = copied ∙ sym all ∙ ap (λ n. take n (p ++ characters)) (sym same);
       }
 
--- ---- a piece up to the end that was found, where that much of it is kept
-module _ (piece : List ℕ) {end : ℕ} (before : (k : ℕ) → k < end → get_or piece k 0 ≢ line_feed) where
-  stretch : plain (take end piece)
-  stretch = before_plain piece end before
+-- ---- a piece
+module _ (piece : List ℕ) where
+  -- no character is a line feed: all of it is kept
+  pub cut_open : plain piece → (p : List ℕ) {line : List ℕ} {kept : ℕ} → Keeps (p ++ piece) line kept → Open p piece line kept
+  cut_open t p k = record { none = plain_ended p piece t; keeps = rw (plain_begun p piece t) k }
 
-  module _ (p : List ℕ) {line : List ℕ} {kept : ℕ} (k : Keeps (p ++ take end piece) line kept) where
-    -- where it is all of the piece
-    pub cut_open : Open p (take end piece) line kept
-    cut_open = record { none = plain_ended p (take end piece) stretch; keeps = rw (plain_begun p (take end piece) stretch) k }
-
-    -- where a line feed comes after it
-    pub cut_closed : end < length piece → get_or piece end 0 ≡ line_feed → Closed p (take (end + 1) piece) line kept
-    cut_closed h e =
-        let text : take (end + 1) piece ≡ take end piece ++ (line_feed ∷ []) = through_feed piece end h e in
-        record {
-          whole = p ++ take end piece;
-          one = ap (ended p) text ∙ feed_ended p (take end piece) stretch;
-          rest = ap (begun p) text ∙ feed_begun p (take end piece) stretch;
-          keeps = k;
-        }
+  -- the first line feed stands at its end: what comes before it is kept
+  pub cut_closed : (end : ℕ) → ((k : ℕ) → k < end → get_or piece k 0 ≢ line_feed) → end < length piece → get_or piece end 0 ≡ line_feed
+      → (p : List ℕ) {line : List ℕ} {kept : ℕ} → Keeps (p ++ take end piece) line kept → Closed p (take (end + 1) piece) line kept
+  cut_closed end before h e p k =
+      let stretch = before_plain piece end before in
+      let text : take (end + 1) piece ≡ take end piece ++ (line_feed ∷ []) = through_feed piece end h e in
+      record {
+        whole = p ++ take end piece;
+        one = ap (ended p) text ∙ feed_ended p (take end piece) stretch;
+        rest = ap (begun p) text ∙ feed_begun p (take end piece) stretch;
+        keeps = k;
+      }

@@ -69,6 +69,10 @@ before_plain [] (suc end) n = tt
 before_plain (c ∷ cs) zero n = tt
 before_plain (c ∷ cs) (suc end) n = (n 0 (omega arith), before_plain cs end (λ k h. n (suc k) (omega arith)))
 
+pub none_plain : (cs : List ℕ) → ((k : ℕ) → k < length cs → get_or cs k 0 ≢ line_feed) → plain cs
+none_plain [] n = tt
+none_plain (c ∷ cs) n = (n 0 (omega arith), none_plain cs (λ k h. n (suc k) (omega arith)))
+
 pub through_feed : (cs : List ℕ) (end : ℕ) → end < length cs → get_or cs end 0 ≡ line_feed → take (end + 1) cs ≡ take end cs ++ (line_feed ∷ [])
 through_feed cs end h e =
     ap (λ n. take n cs) (add-one end) ∙ take-suc cs end 0 h ∙ ap (λ c. take end cs ++ (c ∷ [])) e

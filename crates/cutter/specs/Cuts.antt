@@ -1,8 +1,9 @@
 -- An input that comes piece by piece: the lines that end in a piece, what has come of the line that has not ended, how much of it is kept, and what a cut is.
 -- Assumes nothing.
-use Rattle.std.specs.Prelude.{◌≡◌, true, false, cond, List, [], ◌∷◌, ◌++◌, ℕ, ◌<◌, ◌≤◌, eqb, length, take}
+use Rattle.std.specs.Prelude.{◌≡◌, cond, List, [], ◌∷◌, ◌++◌, ℕ, ◌<◌, ◌≤◌, eqb, length, take}
 use Rattle.meaning.specs.Lines.{line_feed}
 use Rattle.cutter.specs.declared.Cut.{Cut}
+use Rattle.cutter.specs.declared.Cut.TheVariants.{GoesOn, Ends}
 
 -- ---- lines
 -- the lines that end in a piece, where p has come of the first
@@ -44,11 +45,18 @@ pub record Closed (p text line : List ℕ) (kept : ℕ) : Type 0 where
   pub rest : begun p text ≡ []
   pub keeps : Keeps whole line kept
 
--- what is used of a piece is of the second kind; or it is all, and of the first
-pub record Cuts (piece line₀ : List ℕ) (kept₀ : ℕ) (r : Cut) (line : List ℕ) : Type 0 where
-  pub used_within : r.used ≤ length piece
-  pub kept_within : r.kept ≤ length line
-  pub moves : 0 < length piece → 0 < r.used
-  pub all : r.ended ≡ false → r.used ≡ length piece
-  pub goes_on : r.ended ≡ false → (p : List ℕ) → Keeps p line₀ kept₀ → Open p (take r.used piece) line r.kept
-  pub ends : r.ended ≡ true → (p : List ℕ) → Keeps p line₀ kept₀ → Closed p (take r.used piece) line r.kept
+-- all of a piece is of the first kind
+pub record GoneOn (piece line₀ : List ℕ) (kept₀ kept : ℕ) (line : List ℕ) : Type 0 where
+  pub kept_within : kept ≤ length line
+  pub goes_on : (p : List ℕ) → Keeps p line₀ kept₀ → Open p piece line kept
+
+-- what is used of it is of the second
+pub record Ended (piece line₀ : List ℕ) (kept₀ used kept : ℕ) (line : List ℕ) : Type 0 where
+  pub moves : 0 < used
+  pub used_within : used ≤ length piece
+  pub kept_within : kept ≤ length line
+  pub ends : (p : List ℕ) → Keeps p line₀ kept₀ → Closed p (take used piece) line kept
+
+abbrev pub Cuts : (piece line₀ : List ℕ) (kept₀ : ℕ) → Cut → List ℕ → Type 0
+Cuts piece line₀ kept₀ (GoesOn kept) line = GoneOn piece line₀ kept₀ kept line
+Cuts piece line₀ kept₀ (Ends used kept) line = Ended piece line₀ kept₀ used kept line

@@ -2,22 +2,15 @@
 // the line is and however many pieces it comes in.
 #![tactic(auto)]
 
-ghost use Rattle.std.specs.Prelude.{◌≡◌, ◌≢◌, ℕ, ◌<◌, ◌≤◌, min, length, slice_index};
-ghost use Rattle.meaning.specs.Lines.{line_feed};
+ghost use Rattle.std.specs.Prelude.{◌≤◌, length};
 ghost use Rattle.cutter.specs.Cuts.{Keeping, Cuts};
 
-// How many characters of a piece are used, how many are kept of the line that they belong to, and whether it has ended.
+// What a piece gives of a line: all of it, where the line goes on, or as many characters as are used, where it ends there. Either way so many characters of
+// the line are kept.
 #[derive(Clone, Copy)]
-pub struct Cut {
-    pub used: usize,
-    pub kept: usize,
-    pub ended: bool,
-}
-
-fn fewer(a: usize, b: usize) -> usize
-    ensures { result ≡ min a b }
-{
-    if a < b { a } else { b }
+pub enum Cut {
+    GoesOn { kept: usize },
+    Ends { used: usize, kept: usize },
 }
 
 // Characters of one line more: they are kept while there is room.
@@ -25,22 +18,10 @@ fn keep(characters: &[u8], line: &mut [u8], kept: usize) -> usize
     requires { kept ≤ length line.old }
     ensures { Keeping characters.now line.old kept line.new result }
 {
-    let count = fewer(characters.len(), line.len() - kept);
+    let count = characters.len().min(line.len() - kept);
     let filled = kept + count;
     line[kept..filled].copy_from_slice(&characters[..count]);
     filled
-}
-
-// Where the first line feed of a piece stands, or how long the piece is where it has none.
-fn feed_at(piece: &[u8]) -> usize
-    ensures within { result ≤ length piece.now }
-    ensures before { (k : ℕ) → k < result → slice_index piece.now k ≢ line_feed }
-    ensures found { result < length piece.now → slice_index piece.now result ≡ line_feed }
-{
-    piece
-        .iter()
-        .position(|c| *c == b'\n')
-        .unwrap_or(piece.len())
 }
 
 // Takes the characters of a piece up to and with its first line feed, or all of them where it has none. The line is searched for first and then
@@ -49,18 +30,13 @@ pub fn next(piece: &[u8], line: &mut [u8], kept: usize) -> Cut
     requires { kept ≤ length line.old }
     ensures { Cuts piece.now line.old kept result line.new }
 {
-    let end = feed_at(piece);
-    let kept = keep(&piece[..end], line, kept);
-    if end < piece.len() {
-        return Cut {
+    match piece.iter().position(|c| *c == b'\n') {
+        Some(end) => Cut::Ends {
             used: end + 1,
-            kept,
-            ended: true,
-        };
-    }
-    Cut {
-        used: end,
-        kept,
-        ended: false,
+            kept: keep(&piece[..end], line, kept),
+        },
+        None => Cut::GoesOn {
+            kept: keep(piece, line, kept),
+        },
     }
 }

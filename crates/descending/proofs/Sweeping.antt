@@ -1,6 +1,6 @@
 -- Windows from the top place down, a stretch at a time: what a window does to the string that the buffer comes to, and which windows a stretch tells of.
 -- Assumes nothing.
-use mathlib.Core.Path.{◌≡◌, refl, sym, ap, ◌∙◌}
+use mathlib.Core.Path.{◌≡◌, refl, sym, ap, subst, ◌∙◌}
 use mathlib.Core.Logic.{◌≢◌}
 use mathlib.Core.Bool.{Bool, true, false}
 use mathlib.Core.List.{List}
@@ -14,18 +14,25 @@ use lib.ListN.{length, get_or, set, replicate, length-set, length-replicate}
 use lib.Pow.{pow_mono}
 use Rattle.laws.specs.Deciding.{Decides}
 use Rattle.meaning.specs.Scalars.{bit, below}
-use Rattle.meaning.specs.Windows.{window_bits, odd_part}
+use Rattle.meaning.specs.Digits.{most_places}
+use Rattle.meaning.specs.Windows.{leading, second, window_worth, window_bits, odd_part, twos}
 use Rattle.meaning.specs.Wmof.{window_at, spot}
 use Rattle.meaning.specs.Closest.{larger, smaller}
+use Rattle.forms.proofs.DigitSets.{digit_some}
 use Rattle.forms.proofs.Rest.{rest, Differ, differ}
 use Rattle.forms.proofs.Wmof.{At, zero_at}
-use Rattle.forms.proofs.Ties.{Lowest, lowest_bit, opens_some}
+use Rattle.forms.proofs.Ties.{Lowest, lowest_of, lowest_bit, opens_some}
 use Rattle.forms.proofs.Loops.{from, from_same, from_open, from_last, last_at, from_wmof, from_closest}
+use Rattle.table.specs.declared.Window.{Window}
 use Rattle.windows.specs.declared.opening.Place.{Place}
-use Rattle.windows.proofs.Opened.{opened_at, opened_last, leads, follows, Puts}
-use Rattle.places.specs.Openings.{Clear, Highest, openings}
+use Rattle.windows.specs.Openings.{Placed}
+use Rattle.windows.specs.Parts.{Parts}
+use Rattle.windows.proofs.Opened.{opened, opened_at, opened_last, leads, follows, worked, Puts, puts}
+use Rattle.places.specs.Openings.{Highest, openings}
 use Rattle.places.proofs.Openings.{clear_put, seen, none_open, some_open, inside, none_over, opens_there, left_open}
-use Rattle.descending.specs.Sweeps.{Swept, Untied, Turns, Halts, Descent, Turned}
+use Rattle.descending.specs.Sweeps.{Swept, Yielded, Untied, Turns, Halts, Descent, bit_of, Turned}
+use Rattle.descending.specs.declared.Turn.{Turn}
+use Rattle.descending.specs.declared.Turn.TheVariants.{Never, AtOne, AtZero}
 
 -- ---- a turn with m places left
 module _ (b w N t i m : ℕ) (two : 2 ≤ w) (above : suc i ≡ m) (d : List ℤ) where
@@ -56,6 +63,47 @@ module _ (w N t i : ℕ) (two : 2 ≤ w) (low : 0 < N → Lowest N t) (tie : i �
 
   pub turn_odd : window_bits w N i % 2 ≡ 1
   turn_odd = ap (λ x. window_bits w N x % 2) tie ∙ opened_last w N t ∙ lowest_bit N t (low (opens_some N i differs))
+
+-- ---- the window of the tie, read w places above the lowest set bit t
+module _ (w N n t : ℕ) (two : 2 ≤ w) (small : N < 2 ^ n) (low : t ≡ count_trailing_zeros n N)
+    (opens : bit N (count_trailing_zeros n N + w) ≢ below N (count_trailing_zeros n N + w)) where
+  abbrev j : ℕ
+  j = t + w
+
+  opens_here : bit N j ≢ below N j
+  opens_here = subst (λ x. bit N (x + w) ≢ below N (x + w)) (sym low) opens
+
+  lowest : 0 < N → Lowest N t
+  lowest h = subst (Lowest N) (sym low) (lowest_of larger w N n two small h)
+
+  over : j ≡ w + t
+  over = omega arith
+
+  at_tie : At w j (rest N (suc j)) (window_at w N j -ℤ pos 1) (pos (2 ^ t))
+  at_tie = turn_at w N t j two lowest over opens_here
+
+  module _ {s : ℕ} (read : s ≡ window_bits w N j) where
+    pub tie_differ : leading w s ≢ second w s
+    tie_differ = rw read (opened w N j two opens_here)
+
+    pub tie_odd : 1 ≤ s % 2
+    tie_odd = omega (arith, ap (λ x. x % 2) read, turn_odd w N t j two lowest over opens_here)
+
+    -- worked out, less one, and placed
+    module _ {y : Window} {p : Place} (out : Parts w (odd_part w (window_worth w s -ℤ pos 1)) (twos w (window_worth w s -ℤ pos 1)) y) (placed : Placed w y (j + 1) p) where
+      puts_less : Puts w j (window_at w N j -ℤ pos 1) p
+      puts_less = puts j (window_at w N j -ℤ pos 1) (omega arith) (rw read at out) placed
+
+      pub tie_digit : p.unit ≢ pos 0
+      tie_digit e = digit_some at_tie.digit (sym puts_less.unit_is ∙ e)
+
+      pub tie_yields : (d : List ℤ) {d' d'' : List ℤ} → d' ≡ set d p.spot p.unit → d'' ≡ set d' t (pos 1) → Yielded w N (count_trailing_zeros n N) d d''
+      tie_yields d {d'} {d''} e f =
+          let here : Yielded w N t d d'' =
+          record {
+            comes = λ b k. turn_last b w N t j (j + 1) two (omega arith) d p puts_less opens_here over k ∙ sym (f ∙ ap (λ x. set x t (pos 1)) e);
+          } in
+          subst (λ x. Yielded w N x d d'') low here
 
 -- where it does not, none does, and a sweep halts at the end; where it does, it opens, bit b leads, and the sweep halts over it
 module _ (w N t : ℕ) {b s : ℕ} {r : Bool} (two : 2 ≤ w) (seen : s ≡ window_bits w N (t + w)) (turns : Decides r (Turns w s b)) where
@@ -92,15 +140,15 @@ opens_within N n i small opens = go (dec_le i n)
 
 module _ {b w N t n : ℕ} where
   -- it starts with a buffer of zeros
-  pub descent_start : {floor : ℕ} (z d : List ℤ) → Halts b w N t floor → N < 2 ^ n → length z ≡ n + 1 → d ≡ replicate (length z) (pos 0) → Descent b w N t n floor (length d) d
+  pub descent_start : {floor : ℕ} (z d : List ℤ) → Halts b w N t floor → N < 2 ^ n → length z ≡ n + 1 → d ≡ replicate (length z) (pos 0) → Descent b w N t n floor (length z) d
   descent_start {floor} z d h small l e =
       let k = ap length e ∙ length-replicate (length z) (pos 0) ∙ l in
       record {
         same_length = k;
-        within = (rw k (low (ℕ_discrete floor 0)), omega (arith, k));
+        within = (rw l (low (ℕ_discrete floor 0)), omega (arith, l));
         clear = λ j l. ap (λ x. get_or x j (pos 0)) e ∙ zero_at (length z) j;
-        comes = sym (ap (λ x. from b w N t x d) k ∙ ap (from b w N t (n + 1)) (e ∙ ap (λ x. replicate x (pos 0)) l));
-        none = λ q. h.none q (length d);
+        comes = sym (ap (λ x. from b w N t x d) l ∙ ap (from b w N t (n + 1)) (e ∙ ap (λ x. replicate x (pos 0)) l));
+        none = λ q. h.none q (length z);
         some = h.some;
       }
     where
@@ -108,48 +156,11 @@ module _ {b w N t n : ℕ} where
       low (yes q) = omega arith
       low (no q) = let s = h.some q in omega (arith, s.0, opens_within N n (t + w) small s.1)
 
-  module _ {floor left left' : ℕ} {d d' : List ℤ} (c : Descent b w N t n floor left d) (s : Swept w N floor left d left' d') where
-    untied : Dec (floor ≡ 0) → Untied b w N t floor left
-    untied (yes q) = λ i f. c.none q i (omega arith)
-    untied (no q) = λ i f l e o k. omega (arith, (c.some q).0)
-
-    on : from b w N t (n + 1) (replicate (n + 1) (pos 0)) ≡ from b w N t left' d'
-    on = c.comes ∙ s.comes b t (untied (ℕ_discrete floor 0))
-
-    -- windows are written: it has not come to the one that turns
-    pub descent_on : floor ≤ left' → Descent b w N t n floor left' d'
-    descent_on h =
-        record {
-          same_length = s.same_length ∙ c.same_length;
-          within = (h, omega (arith, s.fewer, c.within.1));
-          clear = s.clear;
-          comes = on;
-          none = λ q i f l. c.none q i f (omega (arith, s.fewer));
-          some = c.some;
-        }
-
-    -- or has passed it
-    pub descent_past : left' < floor → Descent b w N t n 0 left' d'
-    descent_past h =
-        record {
-          same_length = s.same_length ∙ c.same_length;
-          within = (omega arith, omega (arith, s.fewer, c.within.1));
-          clear = s.clear;
-          comes = on;
-          none = λ q i f l e o k. omega (arith, (c.some (λ z. omega arith)).0);
-          some = λ q. absurd (q refl);
-        }
-
-  -- all windows are written
-  pub descent_end : {ds : List ℤ} → 2 ≤ w → N < 2 ^ n → t ≡ count_trailing_zeros n N → from b w N t (n + 1) (replicate (n + 1) (pos 0)) ≡ ds → Turned b w N n ds
-  descent_end {ds} two small low e =
-      let f : from b w N (count_trailing_zeros n N) (n + 1) (replicate (n + 1) (pos 0)) ≡ ds = ap (λ x. from b w N x (n + 1) (replicate (n + 1) (pos 0))) (sym low) ∙ e in
-      let g : (c : ℕ) → b ≡ c → ds ≡ from c w N (count_trailing_zeros n N) (n + 1) (replicate (n + 1) (pos 0)) = λ c k. sym f ∙ ap (λ x. from x w N (count_trailing_zeros n N) (n + 1) (replicate (n + 1) (pos 0))) k in
-      record { never = λ k. g 2 k ∙ from_wmof w N n two small; at_one = λ k. g 1 k ∙ from_closest w N n two small larger; at_zero = λ k. g 0 k ∙ from_closest w N n two small smaller }
-
--- ---- nothing is written yet
-pub swept_none : {w N floor m : ℕ} {ds : List ℤ} → Clear m ds → Swept w N floor m ds m ds
-swept_none c = record { same_length = refl; fewer = omega arith; clear = c; comes = λ b t u. refl }
+-- all windows are written
+pub descent_end : (turn : Turn) (w N n : ℕ) {ds : List ℤ} → 2 ≤ w → N < 2 ^ n → from (bit_of turn) w N (count_trailing_zeros n N) (n + 1) (replicate (n + 1) (pos 0)) ≡ ds → Turned turn w N n ds
+descent_end Never w N n two small e = sym e ∙ from_wmof w N n two small
+descent_end AtOne w N n two small e = sym e ∙ from_closest w N n two small larger
+descent_end AtZero w N n two small e = sym e ∙ from_closest w N n two small smaller
 
 -- ---- places are passed
 -- whose bits are those under them
@@ -241,3 +252,38 @@ module _ {w N lowest x floor m opens left : ℕ} {ds d : List ℤ} (two : 2 ≤ 
           swept = swept_put two i p passed (omega (arith, bounds)) down_opens P e;
           opens_are = o ∙ ap (λ t. t % 2 ^ r) g.opens_are ∙ left_open w N lowest x one same u room r found ∙ ap (openings (w - 1) x) k;
         }
+
+    -- the window s that is read there
+    module _ {s : ℕ} (read : s ≡ x / 2 ^ r % 2 ^ (w + 1)) where
+      read_is : s ≡ window_bits w N i
+      read_is = read ∙ down_seen
+
+      pub down_differ : leading w s ≢ second w s
+      down_differ = rw read_is (opened w N i two down_opens)
+
+      -- worked out
+      module _ {y : Window} (out : Parts w (odd_part w (window_worth w s -ℤ pos 0)) (twos w (window_worth w s -ℤ pos 0)) y) where
+        parts : Parts w (odd_part w (window_at w N i)) (twos w (window_at w N i)) y
+        parts = worked w N i s two read_is out
+
+        at : At w i (rest N (suc i)) (window_at w N i) (rest N (suc i - w))
+        at = opened_at w N i two down_opens
+
+        pub down_room : left ≤ most_places → (i < most_places) × (y.twos ≤ w - 1) × (w - 1 ≤ i + y.twos)
+        down_room h = omega (arith, down_under, parts.twos_is, parts.few, at.over)
+
+        -- and placed
+        module _ {p : Place} (placed : Placed (w - 1 + 1) y (i + 1) p) where
+          pub down_puts : Puts w i (window_at w N i) p
+          down_puts =
+              let e : w - 1 + 1 ≡ w = omega arith in
+              puts i (window_at w N i) (omega arith) parts (subst (λ v. Placed v y (i + 1) p) e placed)
+
+          pub down_spot : p.spot < left
+          down_spot = omega (arith, down_puts.spot_is, at.under, down_under)
+
+          pub down_fewer : p.left < left
+          down_fewer = omega (arith, down_puts.left_is, down_under)
+
+          pub down_digit : p.unit ≢ pos 0
+          down_digit e = digit_some at.digit (sym down_puts.unit_is ∙ e)

@@ -7,6 +7,8 @@ use Rattle.meaning.specs.Closest.{larger, smaller}
 use Rattle.forms.specs.Closest.{closest_of}
 use Rattle.forms.proofs.Loops.{from}
 use Rattle.places.specs.Openings.{Clear}
+use Rattle.descending.specs.declared.Turn.{Turn}
+use Rattle.descending.specs.declared.Turn.TheVariants.{Never, AtOne, AtZero}
 
 -- no window that opens from place `floor` up, with m places left, turns: it opens w places above place t and leads with b
 abbrev pub Untied : (b w N t floor m : ℕ) → Type 0
@@ -22,6 +24,12 @@ pub record Swept (w N floor m : ℕ) (ds : List ℤ) (m' : ℕ) (ds' : List ℤ)
 -- window s opens and leads with b
 abbrev pub Turns : (w s b : ℕ) → Type 0
 Turns w s b = (leading w s ≢ second w s) × (leading w s ≡ b)
+
+-- the leading bit at which a tie turns. No window leads with 2, so none turns there
+abbrev pub bit_of : Turn → ℕ
+bit_of Never = 2
+bit_of AtOne = 1
+bit_of AtZero = 0
 
 -- the descent halts at place r: over the window that turns, w places above place t, or at place 0 where none turns
 pub record Halts (b w N t r : ℕ) : Type 0 where
@@ -47,8 +55,8 @@ pub record Tied (w N t : ℕ) (ds : List ℤ) : Type 0 where
 pub record Yielded (w N t : ℕ) (ds ds' : List ℤ) : Type 0 where
   pub comes : (b : ℕ) → bit N (t + w) ≡ b → from b w N t (t + w + 1) ds ≡ ds'
 
--- the string by the leading bit at which a tie turns: with 2 none does
-pub record Turned (turn w N n : ℕ) (ds : List ℤ) : Type 0 where
-  pub never : turn ≡ 2 → ds ≡ wmof w N n
-  pub at_one : turn ≡ 1 → ds ≡ closest_of larger w N n
-  pub at_zero : turn ≡ 0 → ds ≡ closest_of smaller w N n
+-- the string by the leading bit at which a tie turns
+abbrev pub Turned : Turn → (w N n : ℕ) → List ℤ → Type 0
+Turned Never w N n ds = ds ≡ wmof w N n
+Turned AtOne w N n ds = ds ≡ closest_of larger w N n
+Turned AtZero w N n ds = ds ≡ closest_of smaller w N n

@@ -3,22 +3,32 @@ use mathlib.Core.Path.{◌≡◌, refl, sym, ap, ◌∙◌, subst}
 use mathlib.Core.Bool.{Bool, true, false, not, ◌&&◌}
 use mathlib.Core.List.{List, [], ◌∷◌, ◌++◌}
 use Prim.Native.Nat.{ℕ, ◌+◌, ◌<◌, ◌≤◌}
-use native.Mathlib.Nat.{eq-or-lt_of_le}
 use native.Mathlib.Numerals.{add-one}
 use native.Mathlib.Omega.{arith}
-use mathlib.Core.Logic.{⊎_elim}
-use lib.Dec.{T, T_not}
+use native.Mathlib.Decide.{ℕ_discrete}
+use borrow.Author.Tests.{eq-eqb, ne_eqb}
+use mir.Syntax.{w8}
+use mir.Val.{SFits, of_z, bool_byte}
+use lib.Dec.{T, T_not, eqb}
 use lib.IntN.{ℤ, pos}
 use lib.ListN.{length, get_or, take}
 use lib.Seq.{take-suc}
-use Rattle.forms.proofs.Strings.{all_in_is, all_at}
-use Rattle.meaning.specs.Digits.{in_set, all_in}
-use Rattle.meaning.specs.Refusals.{Lowest}
+use Rattle.laws.proofs.Signed.{bits_none, bits_some}
+use Rattle.forms.proofs.Strings.{all_in_is, all_at, nonzero_one, nonzero_none}
+use Rattle.meaning.specs.Digits.{in_set, all_in, nonzero}
 use Rattle.meaning.specs.Checking.{BadDigit}
 
 -- a test's flag, as the code has it
 pub flag : {b : Bool} → b ≡ true → T b
 flag e = subst T (sym e) tt
+
+-- 1 where the bits of a digit are not those of 0
+pub told_nonzero : (d : ℤ) → SFits w8 d → bool_byte (not (eqb (of_z w8 d) 0)) ≡ nonzero d
+told_nonzero d h = go (ℕ_discrete (of_z w8 d) 0)
+  where
+    go : Dec (of_z w8 d ≡ 0) → bool_byte (not (eqb (of_z w8 d) 0)) ≡ nonzero d
+    go (yes e) = rw (eq-eqb (of_z w8 d) 0 e) (sym (nonzero_none (bits_none w8 d h e)))
+    go (no n) = rw (ne_eqb (of_z w8 d) 0 n) (sym (nonzero_one d (bits_some w8 d n)))
 
 -- ---- one digit more
 and_true : (p : Bool) → p && true ≡ p
@@ -43,18 +53,9 @@ module _ (m : ℕ) (ds : List ℤ) where
   abbrev pub Passed : ℕ → Type 0
   Passed i = (p : ℕ) → p < i → T (in_set m (get_or ds p (pos 0)))
 
-  -- one digit more
-  pub pass_more : (i : ℕ) {d : ℤ} → Passed i → d ≡ get_or ds i (pos 0) → T (in_set m d) → Passed (i + 1)
-  pass_more i {d} h e t p l =
-      ⊎_elim (λ (q : p ≡ i). subst (λ x. T (in_set m x)) (e ∙ ap (λ j. get_or ds j (pos 0)) (sym q)) t) (λ (q : p < i). h p q) (eq-or-lt_of_le {n = p} {m = i} (omega arith))
-
   -- a digit in the set is not bad
   none_bad : (p : ℕ) → T (in_set m (get_or ds p (pos 0))) → BadDigit m ds p → ⊥
   none_bad p t b = T_not (in_set m (get_or ds p (pos 0))) b.bad t
-
-  -- a bad digit here is the lowest
-  pub pass_bad : (i : ℕ) {d : ℤ} → Passed i → i < length ds → d ≡ get_or ds i (pos 0) → T (not (in_set m d)) → Lowest (BadDigit m ds) i
-  pass_bad i h l e t = (record { within = l; bad = subst (λ x. T (not (in_set m x))) e t }, λ q m b. none_bad q (h q m) b)
 
   -- there is one
   pub pass_all : (i : ℕ) → Passed i → length ds ≤ i → all_in m ds ≡ false → ⊥

@@ -5,7 +5,7 @@ use mathlib.Core.Bool.{cond}
 use Prim.Native.Nat.{ℕ, zero, suc, ◌+◌, ◌*◌, ◌-◌, ◌/◌, ◌%◌, ◌^◌, ◌<◌, ◌≤◌}
 use native.Mathlib.Omega.{arith}
 use native.Mathlib.Decide.{dec_le}
-use native.Mathlib.Nat.{mul-one, div-one, add-zero}
+use native.Mathlib.Nat.{mul-one, add-zero}
 use lib.Dec.{eqb}
 use lib.IntN.{ℤ, pos, nat_abs, +ℤ_comm, ◌+ℤ◌, ◌-ℤ◌, ◌*ℤ◌}
 use lib.Pow.{low, high, shr-shr, mod-mod-pow}
@@ -15,11 +15,7 @@ use Rattle.meaning.specs.Sets.{Between}
 use Rattle.forms.specs.Fractional.{third, fractional_digit, fractional_next, remaining, Turn}
 use Rattle.forms.proofs.Made.{Sizes, sizes_of, even_is, low_is, middle_is, high_is, sound}
 
--- at the start all remains
-pub remaining_all : (N : ℕ) → remaining N 0 0 0 ≡ N
-remaining_all N = mul-one (N / 1 + 0) ∙ omega (arith, div-one N)
-
--- and where none is skipped, what is left of N and the carry
+-- where none is skipped, there remains what is left of N, and the carry
 pub remaining_none : (N i c : ℕ) → remaining N i c 0 ≡ N / 2 ^ i + c
 remaining_none N i c = mul-one (N / 2 ^ (i + 0) + c) ∙ ap (λ t. N / 2 ^ t + c) (add-zero i)
 

@@ -16,11 +16,14 @@ use Rattle.meaning.specs.Hexadecimal.{bytes_of}
 use Rattle.meaning.specs.Frames.{rising, number_at as number_in, entries_in, weight_in, top_in, places_in, digits_in, stated, lacking, unreadable, in_order, unfit, read_rules, Parsed, Read}
 use Rattle.forms.proofs.Refusals.{Until, number_at, first_at, granted_none, kept_lent}
 use Rattle.digits.proofs.Scans.{flag}
-use Rattle.layout.proofs.Bytes.{sparse_digits, sparse_order, Fit, unfit_not}
+use Rattle.layout.proofs.Bytes.{plain_order, sparse_digits, sparse_order, Fit, unfit_not}
 use Rattle.layout.proofs.Frames.{no_flag, good_none, stated_bare}
 use Rattle.layout.specs.Wholes.{PlainFrame, SparseFrame}
 use Rattle.frames.specs.Orders.{above}
-use Rattle.frames.specs.Told.{refused_by}
+use Rattle.std.proofs.Common.{Ok}
+use Rattle.frames.specs.declared.reading.Reading.{Reading}
+use Rattle.frames.specs.declared.reading.Reading.TheVariants.{Stated, String}
+use Rattle.frames.specs.Told.{refused_by, said}
 use Rattle.frames.proofs.Ordering.{from_count, entries_weight, entries_top}
 
 -- ---- a frame whose parts are there can be read
@@ -57,6 +60,10 @@ module _ (bs : List ℕ) where
       last true false = refl
       last false q = refl
 
+-- ---- a version 1 frame has its digits in order
+pub plain_fit : (line : List ℕ) → PlainFrame line → weight_in (bytes_of line) ≡ weight (digits_in (bytes_of line)) → top_in (bytes_of line) ≡ top (digits_in (bytes_of line)) → Fit (bytes_of line)
+plain_fit line f k t = record { ordered = plain_order (bytes_of line) f.plain; weight_fits = k; top_fits = t }
+
 -- ---- a version 2 frame whose entries rise has the weight and the top of its entries
 module _ (line : List ℕ) (f : SparseFrame line) (rises : rising 0 (number_in (bytes_of line) 5) (entries_in (bytes_of line)) ≡ true) where
   abbrev bytes : List ℕ
@@ -78,6 +85,11 @@ module _ (line : List ℕ) (f : SparseFrame line) (rises : rising 0 (number_in (
       }
 
 -- ---- the answers
+-- what is read is no refusal
+pub said_none : (r : Reading) → (said (Ok r)).refusal ≡ 0
+said_none (Stated b) = refl
+said_none (String k t n) = refl
+
 module _ (line : List ℕ) (digits₀ : List ℤ) where
   abbrev rules : List Rule
   rules = read_rules line (length digits₀)
@@ -95,9 +107,6 @@ module _ (line : List ℕ) (digits₀ : List ℤ) where
         places_are = sym (granted_none r _ n);
         digits_are = sym (kept_lent r _ digits₀ n);
       })
-
-  pub read_strange : {a : Parsed} → unreadable line ≡ true → a ≡ refused_by 16 → Read line digits₀ a digits₀
-  read_strange u e = refuses 0 (flag u, refl) (λ z. omega arith) e
 
   pub read_stated : {b : ℕ} → stated line ≡ b → b ≢ 0 → Read line digits₀ (record { refusal = 0; stated = b; weight = 0; top = 0; places = 0 }) digits₀
   read_stated e z =

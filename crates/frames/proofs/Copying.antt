@@ -2,17 +2,15 @@
 use mathlib.Core.Path.{◌≡◌, refl, sym, ap, ◌∙◌}
 use mathlib.Core.List.{List, [], ◌∷◌}
 use Prim.Native.Nat.{ℕ, zero, suc, ◌+◌, ◌-◌, ◌/◌, ◌<◌}
-use native.Mathlib.Nat.{zero-add}
 use native.Mathlib.Omega.{arith}
 use lib.IntN.{pos}
 use lib.ListN.{length, get_or, drop, length-drop}
 use lib.Seq.{get_or-drop}
 use Rattle.meaning.specs.Hexadecimal.{bytes_of}
-use Rattle.forms.proofs.Listed.{listed_at}
-use Rattle.meaning.specs.Frames.{digit_of, digits_of, digit_at, number_at, entries_in, places_in, digits_in}
+use Rattle.meaning.specs.Frames.{digit_of, digits_of, places_in, digits_in}
 use Rattle.hexadecimal.proofs.Characters.{bytes_count}
-use Rattle.layout.proofs.Bytes.{digits_places, plain_places, plain_digits, sparse_places, sparse_digits}
-use Rattle.layout.specs.Wholes.{PlainFrame, SparseFrame}
+use Rattle.layout.proofs.Bytes.{digits_places, plain_places, plain_digits}
+use Rattle.layout.specs.Wholes.{PlainFrame}
 
 -- ---- version 1
 digits_at : (bs : List ℕ) (i : ℕ) → i < length bs → get_or (digits_of bs) i (pos 0) ≡ digit_of (get_or bs i 0)
@@ -34,16 +32,3 @@ module _ (line : List ℕ) (f : PlainFrame line) where
       ap digit_of (sym (get_or-drop 5 bs i 0))
       ∙ sym (digits_at (drop 5 bs) i (omega (arith, length-drop 5 bs, digits_places bs, plain_places bs f.plain)))
       ∙ ap (λ l. get_or l i (pos 0)) (sym (plain_digits bs f.plain))
-
--- ---- version 2
-module _ (line : List ℕ) (f : SparseFrame line) where
-  pub sparse_count : length (digits_in (bytes_of line)) ≡ number_at (bytes_of line) 5
-  sparse_count = digits_places (bytes_of line) ∙ sparse_places (bytes_of line) f.sparse
-
-  pub sparse_digit : (i : ℕ) → i < length (digits_in (bytes_of line)) → digit_at (entries_in (bytes_of line)) i ≡ get_or (digits_in (bytes_of line)) i (pos 0)
-  sparse_digit i h =
-      let bs = bytes_of line in
-      let g = digit_at (entries_in bs) in
-      ap g (sym (zero-add i))
-      ∙ sym (listed_at g 0 (number_at bs 5) i (pos 0) (omega (arith, sparse_count)))
-      ∙ ap (λ l. get_or l i (pos 0)) (sym (sparse_digits bs f.sparse))

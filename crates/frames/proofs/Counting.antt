@@ -2,14 +2,14 @@
 -- Assumes nothing.
 use mathlib.Core.Path.{◌≡◌, refl, sym, ap, ◌∙◌}
 use mathlib.Core.List.{List}
+use mathlib.Core.Logic.{◌≢◌}
 use Prim.Native.Nat.{ℕ, ◌+◌, ◌<◌, ◌≤◌}
 use native.Mathlib.Omega.{arith}
-use lib.IntN.{ℤ, ℤ_discrete, pos}
+use lib.IntN.{ℤ, pos}
 use lib.ListN.{length, get_or, take}
 use lib.Seq.{take_all, length-take-le}
 use Rattle.meaning.specs.Digits.{nonzero, weight, top}
-use Rattle.frames.specs.Counts.{Counted}
-use Rattle.forms.proofs.Strings.{weight_le, weight_next, top_same, top_next}
+use Rattle.forms.proofs.Strings.{weight_le, weight_next, top_same, top_next, nonzero_one}
 
 -- k and t are the counts of the digits under place i
 pub record Passed (ds : List ℤ) (k t i : ℕ) : Type 0 where
@@ -27,18 +27,24 @@ module _ (ds : List ℤ) where
   pub pass_weight : (k t i : ℕ) → Passed ds k t i → k ≤ i
   pass_weight k t i h = omega (arith, weight_le (take i ds), length-take-le i ds h.within, h.weight_is)
 
-  -- one digit more
-  pub pass_more : (k t i k' t' : ℕ) {d : ℤ} → Passed ds k t i → i < length ds → d ≡ get_or ds i (pos 0) → Counted k t i d k' t' → Passed ds k' t' (i + 1)
-  pass_more k t i k' t' {d} h l e c =
+  -- one digit more, which is 0
+  pub pass_zero : (k t i : ℕ) → Passed ds k t i → i < length ds → get_or ds i (pos 0) ≡ pos 0 → Passed ds k t (i + 1)
+  unfolding nonzero
+  pass_zero k t i h l z =
       record {
         within = omega arith;
-        weight_is = c.weight_is ∙ omega (arith, h.weight_is, weight_next ds i l, ap nonzero e);
-        top_is = by (ℤ_discrete d (pos 0));
+        weight_is = omega (arith, h.weight_is, weight_next ds i l, ap nonzero z);
+        top_is = h.top_is ∙ sym (top_same ds i l z);
       }
-    where
-      by : Dec (d ≡ pos 0) → t' ≡ top (take (i + 1) ds)
-      by (yes z) = c.top_stays z ∙ h.top_is ∙ sym (top_same ds i l (sym e ∙ z))
-      by (no n) = c.top_moves n ∙ sym (top_next ds i l (λ z. n (e ∙ z)))
+
+  -- or another
+  pub pass_one : (k t i : ℕ) → Passed ds k t i → i < length ds → get_or ds i (pos 0) ≢ pos 0 → Passed ds (k + 1) (i + 1) (i + 1)
+  pass_one k t i h l n =
+      record {
+        within = omega arith;
+        weight_is = omega (arith, h.weight_is, weight_next ds i l, nonzero_one (get_or ds i (pos 0)) n);
+        top_is = sym (top_next ds i l n);
+      }
 
   -- the whole string
   pub pass_all : (k t i : ℕ) → Passed ds k t i → length ds ≤ i → (k ≡ weight ds) × (t ≡ top ds)

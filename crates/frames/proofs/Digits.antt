@@ -1,21 +1,18 @@
--- A digit that is not 0, as code finds it. Assumes nothing.
-use mathlib.Core.Path.{◌≡◌}
-use mathlib.Core.Bool.{not}
+-- The digit of a byte that is 0, as code finds it. Assumes nothing.
+use mathlib.Core.Path.{◌≡◌, ap}
+use Prim.Native.Nat.{ℕ, ◌<◌}
+use native.Mathlib.Decide.{dec_lt}
 use native.Mathlib.Omega.{arith}
-use borrow.Author.Tests.{ne_eqb}
-use lib.Dec.{eqb}
-use lib.IntN.{ℤ}
+use borrow.Author.Tests.{lt-ltb, le-ltb}
+use lib.IntN.{pos}
 use mir.Syntax.{w8}
-use mir.Val.{SFits, of_z}
-use Rattle.laws.proofs.Signed.{bits_none}
-use Rattle.meaning.specs.Digits.{nonzero}
-use Rattle.forms.proofs.Strings.{nonzero_none}
-use Rattle.layout.proofs.Entries.{Seen, is_zero, is_one, seen}
+use mir.Val.{of_z}
+use Rattle.meaning.specs.Frames.{digit_of}
 
--- a digit that is not 0, by its bits
-pub nonzero_test : (d : ℤ) → SFits w8 d → not (eqb (of_z w8 d) 0) ≡ eqb (nonzero d) 1
-nonzero_test d f = go (seen d)
+pub digit_zero : (b : ℕ) → of_z w8 (digit_of b) ≡ 0 → digit_of b ≡ pos 0
+unfolding digit_of
+digit_zero b = go (dec_lt b 128)
   where
-    go : Seen d → not (eqb (of_z w8 d) 0) ≡ eqb (nonzero d) 1
-    go (is_zero e z) = rw (z, e)
-    go (is_one z) = rw (z, ne_eqb (of_z w8 d) 0 (λ e. omega (arith, z, nonzero_none (bits_none w8 d f e))))
+    go : Dec (b < 128) → of_z w8 (digit_of b) ≡ 0 → digit_of b ≡ pos 0
+    go (yes l) = rw (lt-ltb b 128 l) (λ h. ap pos h)
+    go (no l) = rw (le-ltb b 128 (omega arith)) (λ h. absurd (omega arith))

@@ -54,9 +54,6 @@ module _ (v : Version) (ds : List ℤ) (out : List ℕ) where
   abbrev rules : List Rule
   rules = write_rules v ds (length out)
 
-  pub write_long : most_places < length ds → Write v ds out (record { refusal = 7; length = 0 }) out
-  write_long h = record { first = first_at rules 0 0 (h, refl); length_is = refl; out_is = refl }
-
   module _ (few : length ds ≤ most_places) where
     pub write_short : length out < line_length v ds → Write v ds out (record { refusal = 24; length = 0 }) out
     write_short h = record { first = first_at rules 1 0 ((λ l. omega arith), (omega (arith, line_length_is v ds), refl)); length_is = refl; out_is = refl }

@@ -2,9 +2,10 @@
 use mathlib.Core.Path.{◌≡◌, refl, sym, ◌∙◌}
 use mathlib.Core.Logic.{◌≢◌}
 use mathlib.Core.Bool.{Bool, true, false, not, cond, ◌&&◌, ◌||◌}
-use mathlib.Core.List.{List}
+use mathlib.Core.List.{List, [], ◌∷◌}
 use Prim.Native.Nat.{ℕ, ◌-◌, ◌/◌, ◌%◌, ◌<◌, ◌≤◌}
 use native.Mathlib.Omega.{arith}
+use native.Mathlib.Decide.{dec_lt, ℕ_discrete}
 use lib.Dec.{ltb, eqb}
 use lib.ListN.{length, get_or}
 use borrow.Author.Tests.{le-leb, lt-leb, lt-ltb, eq-eqb, ne_eqb}
@@ -72,7 +73,7 @@ module _ (line : List ℕ) where
     pub short_strange : stated line ≡ 0 → length line < 10 → unreadable line ≡ true
     short_strange z h = strange z (rw (short h) (or_true (not (is_sparse (bytes_of line) || eqb (get_or (bytes_of line) 0 0) 0))))
 
-    pub empty_strange : length line ≡ 0 → unreadable line ≡ true
+    empty_strange : length line ≡ 0 → unreadable line ≡ true
     empty_strange e = short_strange (other_stated (λ z. omega arith)) (omega arith)
 
     -- ---- by the first byte
@@ -149,3 +150,30 @@ module _ (line : List ℕ) where
               opens = sym is ∙ z;
               long = omega (arith, bytes_count line);
             }
+
+      -- so a line of no kind is strange
+      pub none_strange : (length line ≡ 2 → 1 ≤ b → b ≤ 16 → b ≢ 6 → ⊥) → (b ≡ opening → 7 ≤ length line / 2 → (length line / 2 - 7) % 3 ≢ 0) → (b ≡ 0 → length line / 2 < 5)
+          → unreadable line ≡ true
+      none_strange states sparse plain = go (ℕ_discrete (length line) 2)
+        where
+          one : length line ≡ 2 → Dec (b ≡ 0) → Dec (16 < b) → Dec (b ≡ 6) → unreadable line ≡ true
+          one e (yes z) _ _ = zero_strange e z
+          one e (no z) (yes l) _ = large_strange e l
+          one e (no z) (no l) (yes s) = struck_strange e s
+          one e (no z) (no l) (no s) = absurd (states e (omega arith) (omega arith) s)
+
+          more : length line ≢ 2 → Dec (b ≡ opening) → Dec (b ≡ 0) → Dec (length line / 2 < 7) → unreadable line ≡ true
+          more n (yes o) _ (yes s) = sparse_short n o s
+          more n (yes o) _ (no s) = sparse_cut n o (sparse o (omega arith))
+          more n (no o) (yes z) _ = plain_short n (plain z)
+          more n (no o) (no z) _ = other_strange n o z
+
+          go : Dec (length line ≡ 2) → unreadable line ≡ true
+          go (yes e) = one e (ℕ_discrete b 0) (dec_lt 16 b) (ℕ_discrete b 6)
+          go (no n) = more n (ℕ_discrete b opening) (ℕ_discrete b 0) (dec_lt (length line / 2) 7)
+
+-- no characters at all
+pub nothing_strange : (line : List ℕ) → length line ≡ 0 → unreadable line ≡ true
+unfolding all_hex
+nothing_strange [] e = empty_strange [] refl refl refl
+nothing_strange (c ∷ cs) e = absurd (omega arith)

@@ -1,5 +1,4 @@
 -- What the contracts of this crate cite beside `meaning` and `layout`.
-pub mod Counts
 pub mod Entered
 pub mod Kinds
 pub mod Orders

@@ -16,9 +16,7 @@ pub fn number_at(line: &[u8], k: usize) -> u16
     requires { (all_hex line.now ≡ true) × (2 * k + 3 < length line.now) }
     ensures { result ≡ number_at (bytes_of line.now) k }
 {
-    let high = byte_at(line, k);
-    let low = byte_at(line, k + 1);
-    256 * (high as u16) + low as u16
+    u16::from_be_bytes([byte_at(line, k), byte_at(line, k + 1)])
 }
 
 // The digit of the byte at an index.

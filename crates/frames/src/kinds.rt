@@ -3,10 +3,9 @@ ghost use Rattle.frames.specs.Kinds.{Kinded};
 
 use crate::fields;
 
-// Strange: malformed. Stated: a refused line, with its number. Plain and Sparse: frames of version 1 and 2, whose parts are all there.
+// A refused line, with its number; frames of version 1 and 2, whose parts are all there.
 #[derive(Clone, Copy)]
 pub enum Kind {
-    Strange,
     Stated(u8),
     Plain,
     Sparse,
@@ -27,46 +26,17 @@ const SPARSE_HEAD: usize = 7;
 
 const ENTRY: usize = 3;
 
-pub fn kind_of(line: &[u8]) -> Kind
+// The kind, of a line that is not malformed.
+pub fn kind_of(line: &[u8]) -> Option<Kind>
     ensures { Kinded line.now result }
 {
-    let count = line.len() / 2;
-    if line.len() % 2 == 1 {
-        return Kind::Strange;
+    if line.is_empty() || line.len() % 2 == 1 || !hexadecimal::all_hex(line) {
+        return None;
     }
-    if !hexadecimal::all_hex(line) {
-        return Kind::Strange;
+    match (line.len() / 2, fields::byte_at(line, 0)) {
+        (1, first @ 1..=MOST_NUMBER) if first != STRUCK => Some(Kind::Stated(first)),
+        (n, OPENING) if n >= SPARSE_HEAD && (n - SPARSE_HEAD) % ENTRY == 0 => Some(Kind::Sparse),
+        (n, 0) if n >= PLAIN_HEAD => Some(Kind::Plain),
+        _ => None,
     }
-    if count == 0 {
-        return Kind::Strange;
-    }
-    let first = fields::byte_at(line, 0);
-    if count == 1 {
-        if first == 0 {
-            return Kind::Strange;
-        }
-        if first > MOST_NUMBER {
-            return Kind::Strange;
-        }
-        if first == STRUCK {
-            return Kind::Strange;
-        }
-        return Kind::Stated(first);
-    }
-    if first == OPENING {
-        if count < SPARSE_HEAD {
-            return Kind::Strange;
-        }
-        if (count - SPARSE_HEAD) % ENTRY != 0 {
-            return Kind::Strange;
-        }
-        return Kind::Sparse;
-    }
-    if first != 0 {
-        return Kind::Strange;
-    }
-    if count < PLAIN_HEAD {
-        return Kind::Strange;
-    }
-    Kind::Plain
 }

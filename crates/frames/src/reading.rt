@@ -4,13 +4,20 @@ ghost use Rattle.meaning.specs.Digits.{weight as weightOf, top as top_of};
 ghost use Rattle.meaning.specs.Hexadecimal.{bytes_of};
 ghost use Rattle.meaning.specs.Frames.{rising, number_at, entries_in, places_in, digits_in, Read};
 ghost use Rattle.layout.specs.Wholes.{PlainFrame, SparseFrame};
-ghost use Rattle.frames.specs.Told.{parsed, refused_by};
+ghost use Rattle.frames.specs.Told.{said, Stating};
 
-use crate::entries::Order;
 use crate::kinds::Kind;
-use crate::{Parsed, counts, entries, fields, kinds};
+use crate::{entries, fields, kinds};
 use digits::Count;
+use refusals::Reason;
 use width::Width;
+
+// What a line says: a refused line its number, and a frame the weight, the top and the places of its string.
+#[derive(Clone, Copy)]
+pub enum Reading {
+    Stated(u8),
+    String { weight: u16, top: u16, places: u16 },
+}
 
 // The byte at which each field stands.
 const WEIGHT_AT: usize = 1;
@@ -22,84 +29,58 @@ const COUNT_AT: usize = 5;
 // The bytes before the digits of version 1.
 const PLAIN_HEAD: usize = 5;
 
-// The refusals.
-const STRANGE: u8 = 16;
-
-const LONG: u8 = 7;
-
-const UNFIT: u8 = 21;
-
-const SHORT: u8 = 4;
-
-fn refused(number: u8) -> Parsed
-    ensures { parsed result ≡ refused_by number }
-{
-    Parsed {
-        refusal: number,
-        stated: 0,
-        weight: 0,
-        top: 0,
-        places: 0,
-    }
-}
-
 // ---- version 1
-// The weight and the top of the digits.
+// The weight and the top of the digits, each read where it stands: by its place, and nothing is kept.
 fn tally(line: &[u8]) -> Count
     requires { PlainFrame line.now }
     ensures { (result.weight ≡ weightOf (digits_in (bytes_of line.now))) × (result.top ≡ top_of (digits_in (bytes_of line.now))) }
 {
-    let n = line.len() / 2 - PLAIN_HEAD;
-    let mut sum = Count { weight: 0, top: 0 };
-    let mut i = 0;
-    while i < n {
-        sum = counts::counted(sum, i, fields::digit_at(line, PLAIN_HEAD + i));
-        i += 1;
+    let mut count = Count { weight: 0, top: 0 };
+    for i in 0..line.len() / 2 - PLAIN_HEAD {
+        if fields::digit_at(line, PLAIN_HEAD + i) != 0 {
+            count = Count {
+                weight: count.weight + 1,
+                top: i + 1,
+            };
+        }
     }
-    sum
+    count
 }
 
-// The digits, one behind the other.
+// The digits, one behind the other: by the place, which is that of both.
 fn copy(line: &[u8], digits: &mut [i8])
     requires { (PlainFrame line.now) × (places_in (bytes_of line.now) ≤ length digits.old) }
     ensures { digits.new ≡ digits_in (bytes_of line.now) ++ drop (places_in (bytes_of line.now)) digits.old }
 {
-    let n = line.len() / 2 - PLAIN_HEAD;
-    let mut i = 0;
-    while i < n {
+    for i in 0..line.len() / 2 - PLAIN_HEAD {
         digits[i] = fields::digit_at(line, PLAIN_HEAD + i);
-        i += 1;
     }
 }
 
-fn plain(line: &[u8], digits: &mut [i8]) -> Parsed
+fn plain(line: &[u8], digits: &mut [i8]) -> Result<Reading, Reason>
     requires { PlainFrame line.now }
-    ensures { Read line.now digits.old (parsed result) digits.new }
+    ensures read { Read line.now digits.old (said result) digits.new }
+    ensures stated { Stating result }
 {
     let n = line.len() / 2 - PLAIN_HEAD;
     if Width::MOST_PLACES < n {
-        return refused(LONG);
+        return Err(Reason::LongString);
     }
     let sum = tally(line);
     let weight = fields::number_at(line, WEIGHT_AT);
     let top = fields::number_at(line, TOP_AT);
-    if weight as usize != sum.weight {
-        return refused(UNFIT);
-    }
-    if top as usize != sum.top {
-        return refused(UNFIT);
+    if usize::from(weight) != sum.weight || usize::from(top) != sum.top {
+        return Err(Reason::UnfitFrame);
     }
     if digits.len() < n {
-        return refused(SHORT);
+        return Err(Reason::FewPlaces);
     }
     copy(line, digits);
-    Parsed {
-        refusal: 0,
-        stated: 0,
+    Ok(Reading::String {
         weight,
         top,
         places: n as u16,
-    }
+    })
 }
 
 // ---- version 2
@@ -109,66 +90,47 @@ fn spread(line: &[u8], places: u16, digits: &mut [i8])
     requires line_value { (rising 0 places (entries_in (bytes_of line.now)) ≡ true) × (places ≤ length digits.old) }
     ensures { digits.new ≡ digits_in (bytes_of line.now) ++ drop (places_in (bytes_of line.now)) digits.old }
 {
-    let n = entries::count(line);
-    let mut place = entries::place_of(line, n, 0);
-    let mut e = 0;
-    let mut i = 0;
-    while i < places as usize {
-        let found = entries::picked(line, n, i, e, place);
-        let digit = found.digit;
-        digits[i] = digit;
-        e = found.next;
-        place = found.place;
-        i += 1;
+    digits[..usize::from(places)].fill(0);
+    for e in 0..entries::count(line) {
+        let (place, digit) = entries::entry(line, e);
+        digits[usize::from(place)] = digit;
     }
 }
 
-fn sparse(line: &[u8], digits: &mut [i8]) -> Parsed
+fn sparse(line: &[u8], digits: &mut [i8]) -> Result<Reading, Reason>
     requires { SparseFrame line.now }
-    ensures { Read line.now digits.old (parsed result) digits.new }
+    ensures read { Read line.now digits.old (said result) digits.new }
+    ensures stated { Stating result }
 {
     let places = fields::number_at(line, COUNT_AT);
-    if Width::MOST_PLACES < places as usize {
-        return refused(LONG);
+    if Width::MOST_PLACES < usize::from(places) {
+        return Err(Reason::LongString);
     }
     let weight = fields::number_at(line, WEIGHT_AT);
     let top = fields::number_at(line, TOP_AT);
-    let Order::Rising(high) = entries::ordered(line, places) else {
-        return refused(UNFIT);
-    };
-    if weight as usize != entries::count(line) {
-        return refused(UNFIT);
+    let high = entries::ordered(line, places).ok_or(Reason::UnfitFrame)?;
+    if usize::from(weight) != entries::count(line) || top != high {
+        return Err(Reason::UnfitFrame);
     }
-    if top != high {
-        return refused(UNFIT);
-    }
-    if digits.len() < places as usize {
-        return refused(SHORT);
+    if digits.len() < usize::from(places) {
+        return Err(Reason::FewPlaces);
     }
     spread(line, places, digits);
-    Parsed {
-        refusal: 0,
-        stated: 0,
+    Ok(Reading::String {
         weight,
         top,
         places,
-    }
+    })
 }
 
 // ---- the call
 // Reads a line of either version to lent digits.
-pub fn read(line: &[u8], digits: &mut [i8]) -> Parsed
-    ensures { Read line.now digits.old (parsed result) digits.new }
+pub fn read(line: &[u8], digits: &mut [i8]) -> Result<Reading, Reason>
+    ensures read { Read line.now digits.old (said result) digits.new }
+    ensures stated { Stating result }
 {
-    match kinds::kind_of(line) {
-        Kind::Strange => refused(STRANGE),
-        Kind::Stated(b) => Parsed {
-            refusal: 0,
-            stated: b,
-            weight: 0,
-            top: 0,
-            places: 0,
-        },
+    match kinds::kind_of(line).ok_or(Reason::Malformed)? {
+        Kind::Stated(number) => Ok(Reading::Stated(number)),
         Kind::Plain => plain(line, digits),
         Kind::Sparse => sparse(line, digits),
     }

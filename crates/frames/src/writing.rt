@@ -7,9 +7,10 @@ ghost use Rattle.meaning.specs.Frames.{digit_bytes};
 ghost use Rattle.meaning.specs.Frames.{entries_from, entry_bytes, version1, version2, line_of, Write};
 ghost use Rattle.layout.specs.Wholes.{line_length};
 ghost use Rattle.frames.specs.Entered.{Entered};
-ghost use Rattle.frames.specs.Told.{version_of, framed};
+ghost use Rattle.frames.specs.Told.{version_of, wrote};
 
-use crate::{Framed, Version};
+use crate::Version;
+use refusals::Reason;
 use width::Width;
 
 // The byte that each version opens with, and the characters at which the fields stand.
@@ -37,11 +38,6 @@ pub const MOST_PLAIN: usize = DIGITS_AT + DIGIT * Width::MOST_PLACES;
 
 pub const MOST_SPARSE: usize = ENTRIES_AT + ENTRY * Width::MOST_PLACES;
 
-// The refusals.
-const LONG: u8 = 7;
-
-const SHORT: u8 = 24;
-
 // The entry of one digit at an index of the line, where the digit is not 0. Gives the index after it.
 fn put_entry(digit: i8, place: u16, at: usize, out: &mut [u8]) -> usize
     requires { at + 6 * nonzero digit ≤ length out.old }
@@ -61,10 +57,8 @@ fn put_entries(digits: &[i8], from: usize, out: &mut [u8])
     ensures { out.new ≡ sets out.old from (written (entry_bytes (entries_from 0 digits.now))) }
 {
     let mut at = from;
-    let mut i = 0;
-    while i < digits.len() {
-        at = put_entry(digits[i], i as u16, at, out);
-        i += 1;
+    for (i, digit) in digits.iter().enumerate() {
+        at = put_entry(*digit, i as u16, at, out);
     }
 }
 
@@ -73,10 +67,8 @@ fn put_digits(digits: &[i8], at: usize, out: &mut [u8])
     requires { at + 2 * length digits.now ≤ length out.old }
     ensures { out.new ≡ sets out.old at (written (digit_bytes digits.now)) }
 {
-    let mut i = 0;
-    while i < digits.len() {
-        hexadecimal::put(hexadecimal::byte_of(digits[i]), at + DIGIT * i, out);
-        i += 1;
+    for (i, digit) in digits.iter().enumerate() {
+        hexadecimal::put(hexadecimal::byte_of(*digit), at + DIGIT * i, out);
     }
 }
 
@@ -124,31 +116,22 @@ pub fn line_length(version: Version, weight: u16, digits: &[i8]) -> usize
 {
     match version {
         Version::Plain => DIGITS_AT + DIGIT * digits.len(),
-        Version::Sparse => ENTRIES_AT + ENTRY * weight as usize,
+        Version::Sparse => ENTRIES_AT + ENTRY * usize::from(weight),
     }
 }
 
-// Writes a string to a lent line.
-pub fn write(version: Version, digits: &[i8], out: &mut [u8]) -> Framed
-    ensures { Write (version_of version) digits.now out.old (framed result) out.new }
+// Writes a string to a lent line, and gives the line's length.
+pub fn write(version: Version, digits: &[i8], out: &mut [u8]) -> Result<u16, Reason>
+    ensures { Write (version_of version) digits.now out.old (wrote result) out.new }
 {
     if Width::MOST_PLACES < digits.len() {
-        return Framed {
-            refusal: LONG,
-            length: 0,
-        };
+        return Err(Reason::LongString);
     }
     let weight = digits::weight(digits);
     let length = line_length(version, weight, digits);
     if out.len() < length {
-        return Framed {
-            refusal: SHORT,
-            length: 0,
-        };
+        return Err(Reason::ShortLine);
     }
     fill(version, weight, digits::top(digits) as u16, digits, out);
-    Framed {
-        refusal: 0,
-        length: length as u16,
-    }
+    Ok(length as u16)
 }

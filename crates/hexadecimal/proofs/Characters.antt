@@ -1,17 +1,16 @@
 -- What characters stand for: the three ranges of hexadecimal characters, and all others. A line of them: its pairs, their count and each of them.
 -- Assumes nothing.
-use mathlib.Core.Path.{◌≡◌, refl, ◌∙◌}
-use mathlib.Core.Bool.{true, false, ◌&&◌}
-use mathlib.Core.List.{List, [], ◌∷◌}
+use mathlib.Core.Path.{◌≡◌, refl, sym, ap, subst}
+use mathlib.Core.Bool.{Bool, true, false}
+use Rattle.std.proofs.Common.{IsTrue, ◌↔◌, EachIndex}
+use mathlib.Core.List.{List, [], ◌∷◌, ◌++◌}
 use Prim.Native.Nat.{ℕ, zero, suc, ◌+◌, ◌*◌, ◌-◌, ◌/◌, ◌<◌, ◌≤◌}
 use native.Mathlib.Omega.{arith}
-use lib.Dec.{T, leb, ltb, ltb→lt, leb→le}
-use lib.ListN.{length, get_or, drop, drop_of_length-le, length-drop}
-use lib.Seq.{drop-cons}
-use native.Mathlib.Numerals.{add-one}
+use lib.Dec.{T, ltb, ltb→lt}
+use lib.ListN.{length, get_or}
 use borrow.Author.Tests.{le-leb, lt-leb, lt-ltb}
 use native.Mathlib.Decide.{dec_le}
-use Rattle.laws.proofs.Choices.{either, and_both}
+use Rattle.laws.proofs.Choices.{and_both, true_false}
 use Rattle.meaning.specs.Hexadecimal.{between, nibble, all_hex, bytes_of}
 
 -- ---- one character
@@ -63,23 +62,12 @@ byte_is (a ∷ b ∷ cs) (suc k) h =
     let f : 2 * suc k + 1 ≡ suc (suc (2 * k + 1)) = omega arith in
     rw (f, e) (byte_is cs k (omega arith))
 
--- the bytes from an even place on: a pair, and the bytes after it
-pub bytes_from : (line : List ℕ) (k : ℕ) → 2 * k + 1 < length line
-    → bytes_of (drop (2 * k) line) ≡ (16 * nibble (get_or line (2 * k) 0) + nibble (get_or line (2 * k + 1) 0)) ∷ bytes_of (drop (2 * suc k) line)
+-- less than a pair has none
+pub bytes_end : (line : List ℕ) → length line < 2 → bytes_of line ≡ []
 unfolding bytes_of
-bytes_from line k h =
-    let e : 2 * suc k ≡ suc (2 * k + 1) = omega arith in
-    rw (e, drop-cons line (2 * k) 0 (omega arith), ← add-one (2 * k), drop-cons line (2 * k + 1) 0 h)
-
--- past the last pair there are none
-pub bytes_end : (line : List ℕ) (k : ℕ) → length line ≤ 2 * k + 1 → bytes_of (drop (2 * k) line) ≡ []
-unfolding bytes_of
-bytes_end line k h = go (drop (2 * k) line) (omega (arith, length-drop (2 * k) line))
-  where
-    go : (l : List ℕ) → length l ≤ 1 → bytes_of l ≡ []
-    go [] h = refl
-    go (a ∷ []) h = refl
-    go (a ∷ b ∷ cs) h = absurd (omega arith)
+bytes_end [] h = refl
+bytes_end (a ∷ []) h = refl
+bytes_end (a ∷ b ∷ cs) h = absurd (omega arith)
 
 -- where all are hexadecimal, each stands for a number below 16
 pub hex_at : (line : List ℕ) → T (all_hex line) → (i : ℕ) → i < length line → nibble (get_or line i 0) < 16
@@ -88,26 +76,33 @@ hex_at [] t i h = absurd (omega arith)
 hex_at (c ∷ cs) t zero h = ltb→lt (nibble c) 16 (and_both (ltb (nibble c) 16) (all_hex cs) t).0
 hex_at (c ∷ cs) t (suc i) h = hex_at cs (and_both (ltb (nibble c) 16) (all_hex cs) t).1 i (omega arith)
 
--- ---- a walk along a line: all are hexadecimal if the rest from i on is, whose first is
-module _ (line : List ℕ) (i : ℕ) (h : i < length line) where
-  rest_is : all_hex (drop i line) ≡ ltb (nibble (get_or line i 0)) 16 && all_hex (drop (i + 1) line)
-  unfolding all_hex
-  rest_is = rw (add-one, drop-cons line i 0 h)
-
-  pub hex_more : nibble (get_or line i 0) < 16 → all_hex (drop i line) ≡ all_hex (drop (i + 1) line)
-  hex_more l = rest_is ∙ rw (lt-ltb _ _ l)
-
-  pub hex_not : nibble (get_or line i 0) ≡ 16 → all_hex (drop i line) ≡ false
-  hex_not e = rest_is ∙ rw e
-
-pub hex_end : (line : List ℕ) (i : ℕ) → length line ≤ i → all_hex (drop i line) ≡ true
+-- all are hexadecimal exactly if each stands for a number below 16
+hex_all : (line : List ℕ) → ((i : ℕ) → i < length line → nibble (get_or line i 0) < 16) → all_hex line ≡ true
 unfolding all_hex
-hex_end line i h = rw (drop_of_length-le line h)
+hex_all [] each = refl
+hex_all (c ∷ cs) each = rw (lt-ltb _ _ (each 0 (omega arith)), hex_all cs (λ i h. each (suc i) (omega arith)))
 
--- what a character stands for is 16 at most
-pub nibble_most : (c : ℕ) → nibble c ≤ 16
-unfolding nibble
-nibble_most c =
-    either (λ x. x ≤ 16) (between 48 57 c) (λ t. omega (arith, leb→le c 57 (and_both (leb 48 c) (leb c 57) t).1))
-    (λ _. either (λ x. x ≤ 16) (between 65 70 c) (λ t. omega (arith, leb→le c 70 (and_both (leb 65 c) (leb c 70) t).1))
-    (λ _. either (λ x. x ≤ 16) (between 97 102 c) (λ t. omega (arith, leb→le c 102 (and_both (leb 97 c) (leb c 102) t).1)) (λ _. omega arith)))
+pub hex_each : (line : List ℕ) (r : Bool) → (IsTrue r ↔ EachIndex line (λ i. nibble (get_or line i 0) < 16)) → r ≡ all_hex line
+hex_each line true e = sym (hex_all line (e.0 refl))
+hex_each line false e = go (all_hex line) (hex_at line)
+  where
+    go : (b : Bool) → (T b → (i : ℕ) → i < length line → nibble (get_or line i 0) < 16) → false ≡ b
+    go true h = absurd (true_false (sym (e.1 (h tt))))
+    go false h = refl
+
+-- the first pair of a line, and the rest
+pub record Paired (line pair rest : List ℕ) : Type 0 where
+  pub high : nibble (get_or pair 0 0) < 16
+  pub low : nibble (get_or pair 1 0) < 16
+  pub rest_hex : T (all_hex rest)
+  pub bytes_are : bytes_of line ≡ (16 * nibble (get_or pair 0 0) + nibble (get_or pair 1 0)) ∷ bytes_of rest
+
+pub paired : (line pair rest : List ℕ) → T (all_hex line) → line ≡ pair ++ rest → length pair ≡ 2 → Paired line pair rest
+unfolding all_hex bytes_of
+paired line [] rest t e h = absurd (omega arith)
+paired line (a ∷ []) rest t e h = absurd (omega arith)
+paired line (a ∷ b ∷ c ∷ cs) rest t e h = absurd (omega arith)
+paired line (a ∷ b ∷ []) rest t e h =
+    let f = and_both (ltb (nibble a) 16) (all_hex (b ∷ rest)) (subst (λ l. T (all_hex l)) e t) in
+    let g = and_both (ltb (nibble b) 16) (all_hex rest) f.1 in
+    record { high = ltb→lt (nibble a) 16 f.0; low = ltb→lt (nibble b) 16 g.0; rest_hex = g.1; bytes_are = ap bytes_of e }

@@ -1,24 +1,22 @@
 // Bytes as pairs of characters, in either case when read and in capitals when written; digits as bytes, in two's complement, and back.
 #![tactic(auto)]
 
-ghost use Rattle.std.specs.Prelude.{◌≡◌, [], ◌+◌, ◌*◌, ◌<◌, ◌≤◌, T, length};
+ghost use Rattle.std.specs.Prelude.{◌≡◌, [], ◌+◌, ◌*◌, ◌<◌, ◌≤◌, T, length, MatchOption};
 ghost use Rattle.std.proofs.lemmas.List.Edits.{sets};
 ghost use Rattle.meaning.specs.Hexadecimal.{nibble, all_hex, bytes_of, capital, pair, written};
 ghost use Rattle.meaning.specs.Frames.{two_bytes, byte_of, digit_of};
 ghost use Rattle.hexadecimal.specs.Pairs.{Pairs};
 
-// What no hexadecimal character stands for.
-const NONE: u8 = 16;
-
-// What a character stands for.
-fn nibble(c: u8) -> u8
-    ensures { result ≡ nibble c }
+// What a character stands for, if it is hexadecimal. A byte is read as it is: std's `to_digit` takes a `char`, which would be no plainer.
+#[tactic(auto, using(crate::proofs::Characters::decimal, crate::proofs::Characters::upper, crate::proofs::Characters::lower, crate::proofs::Characters::other))]
+fn nibble(c: u8) -> Option<u8>
+    ensures { MatchOption result (nibble c ≡ 16) (λ x. (x ≡ nibble c) × (x < 16)) }
 {
     match c {
-        b'0'..=b'9' => c - b'0',
-        b'A'..=b'F' => c - b'A' + 10,
-        b'a'..=b'f' => c - b'a' + 10,
-        _ => NONE,
+        b'0'..=b'9' => Some(c - b'0'),
+        b'A'..=b'F' => Some(c - b'A' + 10),
+        b'a'..=b'f' => Some(c - b'a' + 10),
+        _ => None,
     }
 }
 
@@ -34,14 +32,7 @@ pub fn capital(x: u8) -> u8
 pub fn all_hex(line: &[u8]) -> bool
     ensures { result ≡ all_hex line.now }
 {
-    let mut i = 0;
-    while i < line.len() {
-        if nibble(line[i]) == NONE {
-            return false;
-        }
-        i += 1;
-    }
-    true
+    line.iter().all(|c| nibble(*c).is_some())
 }
 
 // The byte of a pair of characters.
@@ -49,7 +40,7 @@ pub fn byte(high: u8, low: u8) -> u8
     requires { (nibble high < 16) × (nibble low < 16) }
     ensures { result ≡ 16 * nibble high + nibble low }
 {
-    16 * nibble(high) + nibble(low)
+    16 * nibble(high).unwrap() + nibble(low).unwrap()
 }
 
 // The bytes of a line's pairs, written to the front of `bytes`.
@@ -58,11 +49,8 @@ pub fn read(line: &[u8], bytes: &mut [u8])
     requires line_len_bound { length line.now ≤ 2 * length bytes.old }
     ensures { bytes.new ≡ sets bytes.old 0 (bytes_of line.now) }
 {
-    let count = line.len() / 2;
-    let mut k = 0;
-    while k < count {
-        bytes[k] = byte(line[2 * k], line[2 * k + 1]);
-        k += 1;
+    for (k, pair) in line.chunks_exact(2).enumerate() {
+        bytes[k] = byte(pair[0], pair[1]);
     }
 }
 
@@ -72,17 +60,11 @@ pub fn read_pairs(line: &[u8], bytes: &mut [u8]) -> usize
     ensures { Pairs line.now bytes.old result bytes.new }
 {
     let count = line.len() / 2;
-    if line.len() % 2 == 1 {
+    if line.len() % 2 == 1 || bytes.len() < count || !all_hex(line) {
         return 0;
     }
-    if bytes.len() < count {
-        return 0;
-    }
-    if all_hex(line) {
-        read(line, bytes);
-        return count;
-    }
-    0
+    read(line, bytes);
+    count
 }
 
 // A byte's two characters, written at an index of `out`.
@@ -99,24 +81,21 @@ pub fn put_number(x: u16, at: usize, out: &mut [u8])
     requires { at + 4 ≤ length out.old }
     ensures { out.new ≡ sets out.old at (written (two_bytes x)) }
 {
-    put((x / 256) as u8, at, out);
-    put((x % 256) as u8, at + 2, out);
+    let [high, low] = x.to_be_bytes();
+    put(high, at, out);
+    put(low, at + 2, out);
 }
 
-// A digit as a byte, in two's complement. It goes by the digit's size: a negative number is no byte to cast to.
+// A digit as a byte, in two's complement.
 pub fn byte_of(d: i8) -> u8
     ensures { result ≡ byte_of d }
 {
-    let size = signed::magnitude(d);
-    if d < 0 { 255 - (size - 1) } else { size }
+    d.cast_unsigned()
 }
 
-// The digit of a byte. It goes by the digit's size: a byte from 128 on is no digit to cast to.
+// The digit of a byte.
 pub fn digit_of(b: u8) -> i8
     ensures { result ≡ digit_of b }
 {
-    if b < 128 {
-        return b as i8;
-    }
-    -1 - ((255 - b) as i8)
+    b.cast_signed()
 }

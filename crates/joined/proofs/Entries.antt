@@ -1,20 +1,10 @@
--- The four entries: stored one by one, and each a residue. Assumes nothing.
-use mathlib.Core.Path.{◌≡◌, refl, sym, ap, ◌∙◌}
-use mathlib.Core.List.{List, [], ◌∷◌, ◌++◌}
-use Prim.Native.Nat.{ℕ, zero, suc, ◌+◌, ◌-◌, ◌%◌, ◌<◌, ◌≤◌}
+-- The four entries: as the code finds them, and each a residue. Assumes nothing.
+use mathlib.Core.Path.{◌≡◌, sym, ap, ◌∙◌}
+use mathlib.Core.List.{[], ◌∷◌}
+use Prim.Native.Nat.{ℕ, zero, suc, ◌+◌, ◌-◌, ◌%◌, ◌<◌}
 use native.Mathlib.Nat.{mod-lt, add-mod, mod-add-mod}
-use native.Mathlib.Omega.{arith}
-use lib.ListN.{length, drop, set}
 use Rattle.meaning.specs.Digits.{listed}
 use Rattle.meaning.specs.JointRunning.{joint_entry, joint_entries_of}
-
--- four stores from the front
-pub four_stored : {A : Type 0} (xs : List A) (a b c d : A) → 4 ≤ length xs → set (set (set (set xs 0 a) 1 b) 2 c) 3 d ≡ (a ∷ b ∷ c ∷ d ∷ []) ++ drop 4 xs
-four_stored [] a b c d l = absurd (omega arith)
-four_stored (x ∷ []) a b c d l = absurd (omega arith)
-four_stored (x ∷ y ∷ []) a b c d l = absurd (omega arith)
-four_stored (x ∷ y ∷ z ∷ []) a b c d l = absurd (omega arith)
-four_stored (x ∷ y ∷ z ∷ w ∷ xs) a b c d l = refl
 
 module _ (m g h : ℕ) where
   -- as the code finds them

@@ -21,9 +21,11 @@ use Rattle.digits.specs.declared.Count.{Count}
 use Rattle.walk.proofs.Lengths.{tape_length, tape_fits}
 use Rattle.pairs.specs.Columns.{fst, snd, row, jsf_n}
 use Rattle.pairs.proofs.Joint.{joint_exists, joint_only}
-use Rattle.joint.specs.declared.Joined.{Joined}
+use Rattle.std.specs.Prelude.{Ok, Err}
+use Rattle.refusals.specs.declared.Refusal.{Refusal}
+use Rattle.refusals.specs.Coded.{coded}
 use Rattle.joint.specs.Places.{columns_in, Weighed, Room, Written}
-use Rattle.joint.specs.Answers.{joined}
+use Rattle.joint.specs.Answers.{answered}
 use Rattle.joint.proofs.Standing.{first_length, second_length, columns_count}
 
 -- ---- the writing pass
@@ -66,14 +68,14 @@ module _ (o : Order) (a b : List ℕ) (lent : Buffers) where
   rules = joint_rules o a b (length lent.first) (length lent.second) (length lent.words)
 
   -- the rule at index k is the first that applies: it is answered, and the buffers are as lent
-  pub refuses : (k : ℕ) {j : Joined} → j ≡ record { refusal = number_at rules k; place = 0; columns = 0; top = 0; words = 0; doublings = 0; additions = 0 } → Until rules k 0 → Joint o a b lent (joined j) lent
-  refuses k e u =
+  pub refuses : (k : ℕ) (r : Refusal) → coded r.reason ≡ number_at rules k → r.place ≡ 0 → Until rules k 0 → Joint o a b lent (answered (Err r)) lent
+  refuses k r e z u =
       let n = number_some rules tt k 0 u in
-      subst (λ j. Joint o a b lent (joined j) lent) (sym e)
+      rw (e, z)
       (record {
         rules = first_at rules k 0 u;
-        accepted = λ z. absurd (n z);
-        refused = λ z. record { left_is = refl; columns_are = refl; top_is = refl; count_is = refl; doublings_are = refl; additions_are = refl };
+        accepted = λ q. absurd (n q);
+        refused = λ q. record { left_is = refl; columns_are = refl; top_is = refl; count_is = refl; doublings_are = refl; additions_are = refl };
       })
 
   -- once the places are found to do, and the columns are counted
@@ -117,7 +119,7 @@ module _ (o : Order) (a b : List ℕ) (lent : Buffers) where
 
       pub accepts : {xs ys : List ℤ} {words : List ℕ} {needed doubled added : ℕ} → Written (number o a) (number o b) (bit_count a) xs ys lent.words words
           → needed ≡ length (tape_of cs) → doubled ≡ c.top - 1 → added ≡ c.weight - 1
-          → Joint o a b lent (joined (record { refusal = 0; place = 0; columns = c.weight; top = c.top; words = needed; doublings = doubled; additions = added }))
+          → Joint o a b lent (answered (Ok (record { columns = c.weight; top = c.top; words = needed; doublings = doubled; additions = added })))
           (record { first = xs ++ drop (bit_count a + 1) lent.first; second = ys ++ drop (bit_count a + 1) lent.second; words = words })
       accepts w n d k =
           record {

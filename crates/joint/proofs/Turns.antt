@@ -1,13 +1,14 @@
 -- One place by bits and carries: the digit's level, the digits, the carries that go on, and the columns as digits. Assumes nothing.
-use mathlib.Core.Path.{◌≡◌, refl, sym, ap, ◌∙◌}
-use mathlib.Core.Logic.{◌≢◌}
-use mathlib.Core.Bool.{true, false}
+use mathlib.Core.Path.{◌≡◌, refl, ap, ◌∙◌}
+use mathlib.Core.List.{[], ◌∷◌}
 use Prim.Native.Nat.{ℕ, zero, suc, ◌+◌, ◌*◌, ◌-◌, ◌/◌, ◌%◌, ◌^◌, ◌≤◌, ◌<◌}
 use native.Mathlib.Omega.{arith}
-use lib.Dec.{T, eqb, eqb→eq, leb-suc-zero}
+use lib.Dec.{T, eqb, eqb→eq}
 use lib.IntN.{ℤ, pos, negsuc}
 use lib.Pow.{shr-shr}
-use lib.Signed.{lt_z}
+use mir.Syntax.{w8}
+use mir.Val.{to_z, of_z, bool_byte}
+use Rattle.std.specs.Prelude.{slice_index_or}
 use Rattle.meaning.specs.Joint.{column}
 use Rattle.pairs.specs.Columns.{D, neg, nil, one, val, off, rule, dig_n, next_n, carry_n}
 use Rattle.pairs.proofs.Tested.{both, below, below_at}
@@ -19,15 +20,7 @@ use Rattle.joint.specs.Places.{levelled, side_of, remains, Placed}
 -- ---- levels
 -- 1 beside a number that is 2 modulo 4, else 0
 abbrev turned : ℕ → ℕ
-turned s = s / 2 % 2 * ((s + 1) % 2)
-
-pub turned_le : (s : ℕ) → turned s ≤ 1
-turned_le s = by (s / 2 % 2) ((s + 1) % 2) (omega arith) (omega arith)
-  where
-    by : (p q : ℕ) → p ≤ 1 → q ≤ 1 → p * q ≤ 1
-    by zero q a b = omega arith
-    by (suc zero) q a b = omega arith
-    by (suc (suc p)) q a b = absurd (omega arith)
+turned s = bool_byte (eqb (s % 4) 2)
 
 -- the rule read from the constant, tested over the 64 pairs of residues
 levels_are : T (below 8 (λ r. below 8 (λ s. eqb (295246105 / 2 ^ (2 * r + 16 * turned s) % 4) (off (rule r s)))))
@@ -43,11 +36,6 @@ unfolding off val
 levelled_is neg = refl
 levelled_is nil = refl
 levelled_is one = refl
-
-pub levelled_one : (v : ℕ) → v ≢ 0 → v ≢ 1 → pos 1 ≡ levelled v
-levelled_one zero m n = absurd (m refl)
-levelled_one (suc zero) m n = absurd (n refl)
-levelled_one (suc (suc v)) m n = refl
 
 -- ---- the place
 -- a level is at most what the low bit and the carry leave
@@ -90,41 +78,14 @@ placed A B i c d x y p q f g hc hd ex ey ep eq ef eg =
       other_few = rw q_is l;
     }
 
--- ---- a column by the sides of its digits
-pub side_minus : (x : ℤ) → lt_z x (pos 0) ≡ true → 0 ≡ side_of x
-side_minus (pos n) t = absurd (let z : ◌≡◌ {A = ℕ} 0 1 = cc (leb-suc-zero n) in omega arith)
-side_minus (negsuc n) t = refl
+-- ---- columns
+-- the digit of each pair of sides, read from the constant
+abbrev by_sides : ℕ → ℕ → ℤ
+by_sides p q =
+    to_z w8
+    (of_z w8 (slice_index_or (slice_index_or ((negsuc 4 ∷ negsuc 0 ∷ negsuc 6 ∷ []) ∷ (negsuc 2 ∷ pos 0 ∷ pos 3 ∷ []) ∷ (pos 7 ∷ pos 1 ∷ pos 5 ∷ []) ∷ []) p []) q (pos 0)))
 
-pub side_plus : (x : ℤ) → x ≢ pos 0 → lt_z x (pos 0) ≡ false → 2 ≡ side_of x
-side_plus (pos zero) m t = absurd (m refl)
-side_plus (pos (suc n)) m t = refl
-side_plus (negsuc n) m t = absurd (let z : ◌≡◌ {A = ℕ} 0 1 = cc in omega arith)
-
--- the digit of each pair of sides
-abbrev pub column_at : ℕ → ℤ
-column_at zero = negsuc 4
-column_at (suc zero) = negsuc 0
-column_at (suc (suc zero)) = negsuc 6
-column_at (suc (suc (suc zero))) = negsuc 2
-column_at (suc (suc (suc (suc zero)))) = pos 0
-column_at (suc (suc (suc (suc (suc zero))))) = pos 3
-column_at (suc (suc (suc (suc (suc (suc zero)))))) = pos 7
-column_at (suc (suc (suc (suc (suc (suc (suc zero))))))) = pos 1
-column_at (suc (suc (suc (suc (suc (suc (suc (suc k)))))))) = pos 5
-
--- an index that is none of the first eight has the last
-pub column_last : (k : ℕ) → k ≢ 0 → k ≢ 1 → k ≢ 2 → k ≢ 3 → k ≢ 4 → k ≢ 5 → k ≢ 6 → k ≢ 7 → pos 5 ≡ column_at k
-column_last zero a b c d e f g h = absurd (a refl)
-column_last (suc zero) a b c d e f g h = absurd (b refl)
-column_last (suc (suc zero)) a b c d e f g h = absurd (c refl)
-column_last (suc (suc (suc zero))) a b c d e f g h = absurd (d refl)
-column_last (suc (suc (suc (suc zero)))) a b c d e f g h = absurd (e refl)
-column_last (suc (suc (suc (suc (suc zero))))) a b c d e f g h = absurd (f refl)
-column_last (suc (suc (suc (suc (suc (suc zero)))))) a b c d e f g h = absurd (g refl)
-column_last (suc (suc (suc (suc (suc (suc (suc zero))))))) a b c d e f g h = absurd (h refl)
-column_last (suc (suc (suc (suc (suc (suc (suc (suc k)))))))) a b c d e f g h = refl
-
-looked : (x y : ℤ) → column_at (3 * side_of x + side_of y) ≡ column x y
+looked : (x y : ℤ) → by_sides (side_of x) (side_of y) ≡ column x y
 unfolding column
 looked (negsuc n) (negsuc m) = refl
 looked (negsuc n) (pos zero) = refl
@@ -136,11 +97,5 @@ looked (pos (suc n)) (negsuc m) = refl
 looked (pos (suc n)) (pos zero) = refl
 looked (pos (suc n)) (pos (suc m)) = refl
 
-pub column_by : (x y : ℤ) (p q k : ℕ) → p ≡ side_of x → q ≡ side_of y → 3 * p + q ≡ k → column_at k ≡ column x y
-column_by x y p q k e f h = ap column_at (sym h) ∙ ap (λ n. column_at (3 * n + q)) e ∙ ap (λ n. column_at (3 * side_of x + n)) f ∙ looked x y
-
--- a side is at most 2
-pub side_le : (x : ℤ) → side_of x ≤ 2
-side_le (negsuc n) = omega arith
-side_le (pos zero) = omega arith
-side_le (pos (suc n)) = omega arith
+pub column_by : (x y : ℤ) {p q : ℕ} → p ≡ side_of x → q ≡ side_of y → by_sides p q ≡ column x y
+column_by x y {p} {q} e f = ap (λ p. by_sides p q) e ∙ ap (by_sides (side_of x)) f ∙ looked x y

@@ -1,12 +1,25 @@
 -- One place of the joint sparse form by bits and carries, and what the counting pass finds.
 -- Assumes nothing.
-use Rattle.std.specs.Prelude.{◌≡◌, ◌≢◌, List, ◌++◌, ℕ, zero, suc, ◌+◌, ◌/◌, ◌^◌, ◌≤◌, ℤ, pos, negsuc, length, drop}
-use Rattle.meaning.specs.Digits.{nonzero, weight, top}
+use Rattle.std.specs.Prelude.{◌≡◌, List, ◌++◌, ℕ, zero, suc, ◌+◌, ◌/◌, ◌^◌, ◌≤◌, ℤ, pos, negsuc, length, drop}
+use Rattle.meaning.specs.Scalars.{number, bit_count}
+use Rattle.meaning.specs.Digits.{weight, top}
 use Rattle.meaning.specs.Taping.{tape_of}
 use Rattle.meaning.specs.Joint.{columns_of}
 use Rattle.pairs.specs.Columns.{fst, snd, val, row, dig_n, next_n, jsf_n}
 use Rattle.digits.specs.declared.Count.{Count}
+use Rattle.scalar.specs.Orders.{ordered}
+use Rattle.joint.specs.declared.scalars.Scalars.{Scalars}
 use Rattle.joint.specs.declared.Turn.{Turn}
+
+-- the numbers of two scalars, and how many bits the first has
+abbrev pub first_of : Scalars → ℕ
+first_of s = number (ordered s.order) s.a.now
+
+abbrev pub second_of : Scalars → ℕ
+second_of s = number (ordered s.order) s.b.now
+
+abbrev pub bits_of : Scalars → ℕ
+bits_of s = bit_count s.a.now
 
 -- a digit by its level, which is 1 more than it
 abbrev pub levelled : ℕ → ℤ
@@ -36,12 +49,6 @@ pub record Placed (A B i c d : ℕ) (t : Turn) : Type 0 where
 -- the columns of the form of A and B on n + 1 places, as one string
 abbrev pub columns_in : (A B n : ℕ) → List ℤ
 columns_in A B n = columns_of (row fst (jsf_n (suc n) A B)) (row snd (jsf_n (suc n) A B))
-
--- the counts c with the column d at place i
-pub record Counted (c : Count) (i : ℕ) (d : ℤ) (r : Count) : Type 0 where
-  pub weight_is : r.weight ≡ c.weight + nonzero d
-  pub same_top : d ≡ pos 0 → r.top ≡ c.top
-  pub next_top : d ≢ pos 0 → r.top ≡ i + 1
 
 -- the number of nonzero columns, and their top
 pub record Weighed (A B n : ℕ) (c : Count) : Type 0 where

@@ -1,26 +1,22 @@
 -- A string and a number compared from the lowest places up: what a stretch of places is worth, what one comparison leaves, and how the whole ends.
 -- Assumes nothing.
-use mathlib.Core.Path.{◌≡◌, sym, ap, ◌∙◌}
-use mathlib.Core.Logic.{◌≢◌}
-use mathlib.Core.Bool.{false}
+use mathlib.Core.Path.{◌≡◌, ap, ◌∙◌}
 use mathlib.Core.List.{List, [], ◌∷◌}
 use Prim.Native.Nat.{ℕ, zero, suc, ◌+◌, ◌*◌, ◌-◌, ◌/◌, ◌%◌, ◌^◌, ◌<◌, ◌≤◌}
 use native.Mathlib.Numerals.{add-one}
-use native.Mathlib.Nat.{add-zero, pow-succ', div-add-mod, div-one, div-eq_of_lt}
+use native.Mathlib.Nat.{pow-succ', div-add-mod, div-eq_of_lt}
 use native.Mathlib.Omega.{arith}
 use native.Mathlib.Decide.{dec_lt}
 use borrow.Author.Tests.{eqb-true, eqb-false}
 use lib.Dec.{eqb}
 use lib.IntN.{ℤ, pos, nat_abs, ◌+ℤ◌, ◌*ℤ◌}
-use lib.ListN.{length, get_or, take, drop, length-take, length-drop, drop_of_length-le, get_or-eq_default}
-use lib.Seq.{take_all, drop-cons, drop-drop}
+use lib.ListN.{length, get_or, take, drop, length-take, drop_of_length-le, get_or-eq_default}
+use lib.Seq.{drop-cons, drop-drop}
 use lib.Pow.{shr-shr}
 use Rattle.laws.specs.Deciding.{Decides}
-use Rattle.laws.proofs.Choices.{denies}
-use Rattle.laws.proofs.Integers.{parts, diffs, ring, same_left}
+use Rattle.laws.proofs.Integers.{parts, diffs, ring}
 use Rattle.meaning.specs.Digits.{worth}
-use Rattle.signed.specs.Levels.{Raised}
-use Rattle.judge.specs.Levels.{level, Stretch, Level, Turned}
+use Rattle.judge.specs.Levels.{level, Raised, Stretch, Level, Turned}
 use Rattle.judge.specs.declared.Turn.{Turn}
 
 -- ---- stretches of places
@@ -36,13 +32,6 @@ worth_from ds i = go (dec_lt i (length ds))
         let above = drop_of_length-le ds {i = i + 1} (omega arith) in
         let none = get_or-eq_default ds (pos 0) {n = i} (omega arith) in
         rw (here, above, none)
-
--- no places
-pub stretch_none : (ds : List ℤ) (i : ℕ) → Stretch ds i 0 0
-stretch_none ds i = record { is = rw add-zero (law (worth (drop i ds))); least = omega arith; most = omega arith }
-  where
-    law : (W : ℤ) → W +ℤ pos level ≡ pos level +ℤ pos 1 *ℤ W
-    law W = rw (parts W) (simp diffs (omega ring))
 
 -- one place more, under the others
 pub stretch_more : (ds : List ℤ) (i m r s : ℕ) → Raised level (get_or ds i (pos 0)) r → Stretch ds (i + 1) m s → Stretch ds i (suc m) (2 * s + r)
@@ -93,12 +82,6 @@ stretch_part ds i r h =
     law W X Y e f =
         let k = simp diffs at (rw (parts X) at f) in
         rw (e, parts X, parts Y) (simp diffs (omega ring))
-
--- of a part that goes on to the top
-pub stretch_rest : (ds : List ℤ) (i r : ℕ) → Stretch (take (length ds - i) (drop i ds)) 0 8 r → Stretch ds i 8 r
-stretch_rest ds i r h =
-    let all = take_all (length ds - i) (drop i ds) (omega (arith, length-drop i ds)) in
-    record { is = rw (all, drop-drop 8 i ds) at h.is; least = h.least; most = h.most }
 
 -- and above the string
 pub stretch_above : (ds : List ℤ) (i : ℕ) → length ds ≤ i → Stretch ds i 8 (255 * level)
@@ -156,15 +139,6 @@ pub record Compared (N : ℕ) (ds : List ℤ) (q carry : ℕ) : Type 0 where
   pub back : Level N ds (8 * q) carry → worth ds ≡ pos N
 
 module _ (N : ℕ) (ds : List ℤ) where
-  -- nothing is compared yet
-  pub compare_none : Compared N ds 0 level
-  compare_none =
-      record {
-        small = omega arith;
-        there = λ e. ap (λ t. t +ℤ pos level) e ∙ ap (λ n. pos (n + level)) (sym (div-one N));
-        back = λ e. same_left (worth ds) (pos N) (pos level) (e ∙ ap (λ n. pos (n + level)) (div-one N));
-      }
-
   -- eight places more
   pub compare_more : (q carry : ℕ) {t : Turn} → Compared N ds q carry → Turned N ds q carry t → t.left ≡ 0 → Compared N ds (q + 1) t.carry
   compare_more q carry h k z =
@@ -173,10 +147,6 @@ module _ (N : ℕ) (ds : List ℤ) where
         there = λ e. k.there z (h.there e);
         back = λ e. h.back (k.back z e);
       }
-
-  -- something is left
-  pub compare_stop : (q carry : ℕ) {t : Turn} → Compared N ds q carry → Turned N ds q carry t → t.left ≢ 0 → Decides false (worth ds ≡ pos N)
-  compare_stop q carry h k n = denies (λ e. k.differs n (h.there e))
 
   -- above the string and the number: nothing may be carried
   pub compare_all : (q carry : ℕ) → Compared N ds q carry → length ds ≤ 8 * q → N < 2 ^ (8 * q) → Decides (eqb carry level) (worth ds ≡ pos N)

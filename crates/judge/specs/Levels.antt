@@ -1,12 +1,18 @@
 -- A string and a number compared from the lowest places up, eight places with a byte at a time.
 -- Assumes nothing.
-use Rattle.std.specs.Prelude.{◌≡◌, ◌≢◌, List, ℕ, ◌+◌, ◌*◌, ◌/◌, ◌^◌, ◌≤◌, ℤ, pos, ◌+ℤ◌, ◌*ℤ◌, drop}
+use Rattle.std.specs.Prelude.{◌≡◌, ◌≢◌, List, ℕ, ◌+◌, ◌*◌, ◌/◌, ◌^◌, ◌<◌, ◌≤◌, ℤ, pos, ◌+ℤ◌, ◌*ℤ◌, drop}
 use Rattle.meaning.specs.Digits.{worth}
 use Rattle.judge.specs.declared.Turn.{Turn}
 
 -- how far digits and carries are kept above what they are
 abbrev pub level : ℕ
 level = 256
+
+-- r is d raised by a level; d is a signed byte, from -128 to 127
+pub record Raised (level : ℕ) (d : ℤ) (r : ℕ) : Type 0 where
+  pub is : pos r ≡ d +ℤ pos level
+  pub least : level ≤ r + 128
+  pub most : r < level + 128
 
 -- r is what the m places from place i up are worth by themselves, each digit raised: that adds level · (2 ^ m - 1)
 pub record Stretch (ds : List ℤ) (i m r : ℕ) : Type 0 where

@@ -1,20 +1,20 @@
 // Judges digit strings made elsewhere: the call `check`, and `check_nonadjacent` that also asks how far apart the nonzero digits stand.
 #![tactic(auto)]
 
-ghost use Rattle.std.specs.Prelude.{◌≡◌, ◌≢◌, true, ℕ, ◌+◌, ◌*◌, ◌/◌, ◌%◌, ◌^◌, ◌≤◌, ◌<◌, min, max, pos, length, get_or};
+ghost use Rattle.std.specs.Prelude.{◌≡◌, ◌≢◌, true, ℕ, ◌+◌, ◌*◌, ◌/◌, ◌%◌, ◌^◌, ◌≤◌, ◌<◌, pos, length, get_or};
 ghost use Rattle.laws.specs.Deciding.{Decides};
-ghost use Rattle.meaning.specs.Scalars.{number, order_of, most_bytes};
+ghost use Rattle.meaning.specs.Scalars.{number, most_bytes};
 ghost use Rattle.meaning.specs.Digits.{most_places, worth};
 ghost use Rattle.meaning.specs.Checking.{Crowded, check_rules, nonadjacent_rules, Check};
-ghost use Rattle.digits.specs.Tallies.{told};
+ghost use Rattle.digits.specs.Tallies.{answered};
 ghost use Rattle.scalar.specs.Orders.{ordered};
-ghost use Rattle.signed.specs.Levels.{Raised};
-ghost use Rattle.judge.specs.Levels.{level, Stretch, Turned};
-ghost use Rattle.judge.specs.Spaces.{Freed, Clear, Spacing};
+ghost use Rattle.judge.specs.Levels.{level, Raised, Stretch, Turned};
+ghost use Rattle.judge.specs.Spaces.{Clear, Spacing};
 
-use digits::{Found, Tally};
+use digits::Accepted;
+use refusals::{Reason, Refusal};
 use scalar::{MOST_BYTES, Order};
-use width::{DigitSet, Known, Width};
+use width::{DigitSet, Width};
 
 // ---- worth
 // Digits and carries are kept this much above what they are: none is then below nought.
@@ -24,11 +24,9 @@ const LEVEL: u32 = 256;
 fn digit_at(digits: &[i8], i: usize) -> u32
     ensures { Raised level (get_or digits.now i (pos 0)) result }
 {
-    if i < digits.len() {
-        signed::raised(digits[i], LEVEL)
-    } else {
-        LEVEL
-    }
+    digits.get(i).map_or(LEVEL, |&digit| {
+        LEVEL.wrapping_add_signed(i32::from(digit))
+    })
 }
 
 // The eight lowest digits of a part of the string, as one number.
@@ -36,9 +34,7 @@ fn lowest_eight(part: &[i8]) -> u32
     ensures { Stretch part.now 0 8 result }
 {
     let mut sum = 0;
-    let mut k = 8;
-    while 0 < k {
-        k -= 1;
+    for k in (0..8).rev() {
         sum = 2 * sum + digit_at(part, k);
     }
     sum
@@ -86,206 +82,133 @@ fn carried(there: u32, carry: u32) -> Turn
     }
 }
 
-fn step(order: u8, scalar: &[u8], digits: &[i8], q: usize, carry: u32) -> Turn
-    requires { (8 * q + 8 < 2 ^ 64) × (carry ≤ 512) }
-    ensures { Turned (number (order_of order) scalar.now) digits.now q carry result }
-{
-    carried(eight(digits, 8 * q) - scalar::byte(order, scalar, q), carry)
-}
-
-// The same where the eight places stand in the string.
-fn step_within(order: u8, scalar: &[u8], digits: &[i8], q: usize, carry: u32) -> Turn
-    requires { (8 * q + 8 ≤ length digits.now) × (8 * q + 8 < 2 ^ 64) × (carry ≤ 512) }
-    ensures { Turned (number (order_of order) scalar.now) digits.now q carry result }
-{
-    carried(
-        eight_within(digits, 8 * q) - scalar::byte(order, scalar, q),
-        carry,
-    )
-}
-
-fn smaller(a: usize, b: usize) -> usize
-    ensures { result ≡ min a b }
-{
-    if a < b { a } else { b }
-}
-
-fn larger(a: usize, b: usize) -> usize
-    ensures { result ≡ max a b }
-{
-    if a < b { b } else { a }
-}
-
 // Whether the string is worth the scalar. They are compared from the lowest places up, to the last place of either: nothing may be left
 // at any eight places, and nothing carried past the top. So no number on the way outgrows a word, and none is cut down to one. As far as both
 // reach, nothing is asked about their ends.
-fn worth_is(order: u8, scalar: &[u8], digits: &[i8]) -> bool
+fn worth_is(order: Order, scalar: &[u8], digits: &[i8]) -> bool
     requires { (length scalar.now ≤ most_bytes) × (length digits.now ≤ most_places) }
-    ensures { Decides result (worth digits.now ≡ pos (number (order_of order) scalar.now)) }
+    ensures { Decides result (worth digits.now ≡ pos (number (ordered order) scalar.now)) }
 {
-    let end = larger((digits.len() + 7) / 8, scalar.len());
-    let both = smaller(digits.len() / 8, scalar.len());
+    let end = ((digits.len() + 7) / 8).max(scalar.len());
+    let both = (digits.len() / 8).min(scalar.len());
     let mut carry = LEVEL;
-    let mut q = 0;
-    while q < both {
-        let turn = step_within(order, scalar, digits, q, carry);
+    'both: for q in 0..both {
+        let turn = carried(
+            eight_within(digits, 8 * q) - scalar::byte(order, scalar, q),
+            carry,
+        );
         if turn.left != 0 {
             return false;
         }
         carry = turn.carry;
-        q += 1;
     }
-    while q < end {
-        let turn = step(order, scalar, digits, q, carry);
+    'above: for q in both..end {
+        let turn = carried(eight(digits, 8 * q) - scalar::byte(order, scalar, q), carry);
         if turn.left != 0 {
             return false;
         }
         carry = turn.carry;
-        q += 1;
     }
     carry == LEVEL
 }
 
 // ---- spacing
-// What a look at the spacing finds: the lower place of the lowest pair that stands too near, or none.
-#[derive(Clone, Copy)]
-enum Spaced {
-    Near(usize),
-    Apart,
-}
-
-// Whether the digit at place i stands too near, where the next nonzero one may stand from place `free` on.
-fn crowds(digit: i8, i: usize, free: usize) -> bool
-    ensures { Decides result ((digit ≢ pos 0) × (i < free)) }
-{
-    if digit == 0 { false } else { i < free }
-}
-
-// From where on the next nonzero digit may stand, after the digit at place i.
-fn freed(w: usize, free: usize, i: usize, digit: i8) -> usize
-    requires { i + w < 2 ^ 64 }
-    ensures { Freed w free i digit result }
-{
-    if digit == 0 { free } else { i + w }
-}
-
-// The lowest pair is looked for from place 0 up. Each nonzero digit is looked at with the last one under it alone: those further down are no nearer.
-fn near(w: usize, digits: &[i8]) -> Spaced
-    requires { w < 256 }
+// The lower place of the lowest pair that stands too near. It is looked for from place 0 up; each nonzero digit is looked at with the last one under it alone: those further
+// down are no nearer.
+fn near(w: u8, digits: &[i8]) -> Option<usize>
     ensures { Spacing w digits.now result }
 {
+    let span = usize::from(w);
     let mut free = 0;
-    let mut i = 0;
-    while i < digits.len() {
-        let digit = digits[i];
-        if crowds(digit, i, free) {
-            return Spaced::Near(free - w);
+    for (i, &digit) in digits.iter().enumerate() {
+        if digit != 0 {
+            if i < free {
+                return Some(free - span);
+            }
+            free = i + span;
         }
-        free = freed(w, free, i, digit);
-        i += 1;
     }
-    Spaced::Apart
+    None
 }
 
-// Of the next three a yes alone is relied on: after a no the pair is looked for.
-// Whether one of two digits is 0.
-fn parted(lower: i8, upper: i8) -> bool
-    ensures { result ≡ true → lower ≢ pos 0 → upper ≢ pos 0 → ⊥ }
-{
-    if lower == 0 { true } else { upper == 0 }
-}
-
+// Of the next two a yes alone is relied on: after a no the pair is looked for.
 // Whether no two nonzero digits stand `gap` apart. The loop has no branch and runs to the string's end, so a machine takes many digits at a time.
 fn clear(gap: usize, digits: &[i8]) -> bool
     ensures { result ≡ true → Clear gap digits.now }
 {
     let mut all = true;
-    let mut i = gap;
-    while i < digits.len() {
-        all = digits::both(all, parted(digits[i - gap], digits[i]));
-        i += 1;
+    for i in gap..digits.len() {
+        all &= (digits[i - gap] == 0) | (digits[i] == 0);
     }
     all
 }
 
 // Whether no two nonzero digits stand too near.
-fn apart(w: usize, digits: &[i8]) -> bool
-    requires { w < 256 }
+fn apart(w: u8, digits: &[i8]) -> bool
     ensures { result ≡ true → (p : ℕ) → Crowded w digits.now p → ⊥ }
 {
-    let mut gap = 1;
-    while gap < w {
+    for gap in 1..usize::from(w) {
         if !clear(gap, digits) {
             return false;
         }
-        gap += 1;
     }
     true
 }
 
 // A string whose digits stand apart, as most do, is told by its gaps alone.
-fn spacing(w: usize, digits: &[i8]) -> Spaced
-    requires { w < 256 }
+fn spacing(w: u8, digits: &[i8]) -> Option<usize>
     ensures { Spacing w digits.now result }
 {
     if apart(w, digits) {
-        return Spaced::Apart;
+        return None;
     }
     near(w, digits)
 }
 
 // ---- the calls
-// A refusal: 0 in every field but its number and its place.
-fn refused(number: u8, place: u16) -> Tally
-    ensures { result ≡ record { refusal = number; place = place; weight = 0; top = 0 } }
-{
-    Tally {
-        refusal: number,
-        place,
-        weight: 0,
-        top: 0,
-    }
-}
-
 // The plain check.
-pub fn check(set: DigitSet, order: Order, scalar: &[u8], digits: &[i8]) -> Tally
-    ensures { Check (check_rules set.width set.largest (ordered order) scalar.now digits.now) digits.now (told result) }
+pub fn check(set: DigitSet, order: Order, scalar: &[u8], digits: &[i8]) -> Result<Accepted, Refusal>
+    ensures { Check (check_rules set.width set.largest (ordered order) scalar.now digits.now) digits.now (answered result) }
 {
-    let Known::As(known) = set.known() else {
-        return refused(set.fault(), 0);
-    };
+    let width = set.tried()?;
     if MOST_BYTES < scalar.len() {
-        return refused(3, 0);
+        return Err(Reason::LongScalar.into());
     }
     if Width::MOST_PLACES < digits.len() {
-        return refused(7, 0);
+        return Err(Reason::LongString.into());
     }
-    match digits::scan(known, digits) {
-        Found::Bad(place) => refused(8, place as u16),
-        Found::Sound(count) => {
-            if !worth_is(scalar::code_of(order), scalar, digits) {
-                return refused(9, 0);
+    match digits::scan(width, digits) {
+        Err(place) => Err(Refusal {
+            reason: Reason::BadDigit,
+            place: place as u16,
+        }),
+        Ok(count) => {
+            if !worth_is(order, scalar, digits) {
+                return Err(Reason::OtherWorth.into());
             }
-            Tally {
-                refusal: 0,
-                place: 0,
+            Ok(Accepted {
                 weight: count.weight as u16,
                 top: count.top as u16,
-            }
+            })
         }
     }
 }
 
 // The check of a string whose nonzero digits have to stand apart. Its own rule is the last, so what the plain check refuses stays refused.
-pub fn check_nonadjacent(set: DigitSet, order: Order, scalar: &[u8], digits: &[i8]) -> Tally
-    ensures { Check (nonadjacent_rules set.width set.largest (ordered order) scalar.now digits.now) digits.now (told result) }
+pub fn check_nonadjacent(
+    set: DigitSet,
+    order: Order,
+    scalar: &[u8],
+    digits: &[i8],
+) -> Result<Accepted, Refusal>
+    ensures { Check (nonadjacent_rules set.width set.largest (ordered order) scalar.now digits.now) digits.now (answered result) }
 {
-    let plain = check(set, order, scalar, digits);
-    if plain.refusal != 0 {
-        return plain;
-    }
-    match spacing(set.width as usize, digits) {
-        Spaced::Near(place) => refused(10, place as u16),
-        Spaced::Apart => plain,
+    let plain = check(set, order, scalar, digits)?;
+    match spacing(set.width, digits) {
+        Some(place) => Err(Refusal {
+            reason: Reason::NearDigits,
+            place: place as u16,
+        }),
+        None => Ok(plain),
     }
 }

@@ -32,10 +32,6 @@ pub and_both : (p q : Bool) → T (p && q) → T p × T q
 and_both true q t = (tt, t)
 and_both false q t = absurd t
 
-pub both_true : (p q : Bool) → p && q ≡ true → (p ≡ true) × (q ≡ true)
-both_true true q e = (refl, e)
-both_true false q e = absurd (subst T (sym e) tt)
-
 pub and_of : (p q : Bool) → T p → T q → T (p && q)
 and_of true q a b = b
 and_of false q a b = absurd a

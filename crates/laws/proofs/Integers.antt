@@ -199,16 +199,9 @@ sub_zero_same x y z = let k = simp diffs at (rw (parts x, parts y) at z) in rw (
 pub above : (a c : ℕ) → c ≤ a → pos a -ℤ pos c ≡ pos (a - c)
 above a c h = rw (minus c) (simp diffs (omega ring))
 
-pub beneath : (a c : ℕ) → a < c → pos a -ℤ pos c ≡ negsuc (c - 1 - a)
-beneath a c h = rw (minus c) (simp diffs (omega ring))
-
 -- what two take from a smaller number
 pub beneath_more : (a b c : ℕ) → a ≤ b → pos a -ℤ pos b -ℤ pos c ≡ neg_ℤ (pos (b - a + c))
 beneath_more a b c h = rw (minus (b - a + c), minus b, minus c) (simp diffs (omega ring))
-
--- taken off, and put back
-pub again : (a c : ℕ) → pos a ≡ (pos a -ℤ pos c) +ℤ pos c
-again a c = rw (minus c) (simp diffs (omega ring))
 
 -- nothing taken off
 pub sub_none : (z : ℤ) → z -ℤ pos 0 ≡ z

@@ -10,4 +10,3 @@ pub mod Runs
 pub mod Parts
 pub mod Tables
 pub mod Signed
-pub mod Packing

@@ -7,13 +7,12 @@ use native.Mathlib.Omega.{arith}
 use native.Mathlib.Decide.{dec_lt, ℕ_discrete}
 use native.Mathlib.Nat.{add-zero}
 use lib.IntN.{ℤ, pos, nat_abs, ◌-ℤ◌}
-use lib.ListN.{length, get_or, set, replicate, length-set, length-replicate}
+use lib.ListN.{length, get_or, set, length-set}
 use lib.Seq.{get_or-set_same, get_or-set_other, ext_get_or}
 use Rattle.meaning.specs.Scalars.{bit, below}
 use Rattle.meaning.specs.Mof.{mof_digit, mof}
 use Rattle.forms.proofs.Mof.{mof_length, mof_at}
 use Rattle.laws.proofs.Integers.{diffs, ring, minus, sub_zero_same}
-use Rattle.forms.proofs.Wmof.{zero_at}
 use Rattle.places.specs.Openings.{Highest, openings}
 use Rattle.places.proofs.Openings.{clear_put, here, under, none_open, inside, none_over, opens_there, left_open}
 use Rattle.mof.specs.Above.{Above}
@@ -24,15 +23,6 @@ same_none a b e = rw (minus b) (simp diffs (omega ring))
 
 -- ---- MOF: its digits are put where a window of one place opens
 module _ {N n : ℕ} where
-  pub above_none : (z : List ℤ) {d : List ℤ} → length z ≡ n + 1 → d ≡ replicate (length z) (pos 0) → Above N n (n + 1) d
-  above_none z l e =
-      record {
-        same_length = ap length e ∙ length-replicate (length z) (pos 0) ∙ l;
-        within = omega arith;
-        stand = λ j h k. absurd (omega arith);
-        clear = λ j h. ap (λ x. get_or x j (pos 0)) e ∙ zero_at (length z) j;
-      }
-
   above_pass : {m : ℕ} {d : List ℤ} (i : ℕ) → Above N n m d → i ≤ m → ((q : ℕ) → i ≤ q → q < m → bit N q ≡ below N q) → Above N n i d
   above_pass {m} {d} i a h same =
       record { same_length = a.same_length; within = omega (arith, a.within); stand = λ j l k. go j l k (dec_lt j m); clear = λ j k. a.clear j (omega arith) }

@@ -7,12 +7,12 @@ use Prim.Native.Nat.{ℕ, zero, suc, ◌+◌, ◌*◌, ◌-◌, ◌/◌, ◌%◌
 use native.Mathlib.Omega.{arith}
 use native.Mathlib.Decide.{dec_lt, ℕ_discrete}
 use native.Mathlib.Nat.{pow-succ', zero-add}
-use native.Mathlib.Numerals.{add-one}
-use lib.Count.{ones, ones_step, ones-ones}
+use lib.Count.{ones, ones_step, ones-ones, ones-le}
 use lib.IntN.{ℤ, pos}
 use lib.ListN.{length, get_or, set, take, drop, replicate, get_or-replicate, length-set, length-drop, drop_of_length-le}
-use lib.Seq.{drop-cons, drop-drop, drop-set-lt, drop-set-add, get_or-drop, get_or-set_same, get_or-set_other, ext_get_or}
+use lib.Seq.{drop-drop, drop-set-lt, drop-set-add, get_or-drop, get_or-set_same, get_or-set_other, ext_get_or}
 use lib.Pow.{pow_pos}
+use Rattle.std.proofs.lemmas.List.Sums.{sum_by-cons}
 use Rattle.meaning.specs.Digits.{nonzero, weight, listed}
 use Rattle.meaning.specs.Recoding.{marked, marks_of, mark_words}
 use Rattle.forms.proofs.Listed.{listed_length, listed_at}
@@ -129,24 +129,21 @@ weight_parts (suc k) [] = omega arith
 weight_parts (suc k) (d ∷ ds) = omega (arith, weight_parts k ds)
 
 words_weight : (ds : List ℤ) (i k : ℕ) → length ds ≤ 64 * (i + k) → ones_of (listed (λ q. marked 64 (drop (64 * q) ds)) i k) ≡ weight (drop (64 * i) ds)
-unfolding listed ones_of weight
+unfolding listed weight
 words_weight ds i zero h = sym (ap weight (drop_of_length-le ds {i = 64 * i} (omega arith)))
 words_weight ds i (suc k) h =
     let X = drop (64 * i) ds in
     let more : 64 * suc i ≡ 64 * i + 64 = omega arith in
     let next : drop (64 * suc i) ds ≡ drop 64 X = ap (λ t. drop t ds) more ∙ sym (drop-drop 64 (64 * i) ds) in
-    omega (arith, marked_ones 64 X, words_weight ds (suc i) k (omega arith), ap weight next, weight_parts 64 X)
+    let first = sum_by-cons ones (marked 64 X) (listed (λ q. marked 64 (drop (64 * q) ds)) (suc i) k) in
+    omega (arith, first, marked_ones 64 X, words_weight ds (suc i) k (omega arith), ap weight next, weight_parts 64 X)
 
 -- are the weight
 pub marks_weight : (ds : List ℤ) → length ds ≤ 64 * mark_words → ones_of (marks_of ds) ≡ weight ds
 unfolding marks_of
 marks_weight ds h = words_weight ds 0 mark_words h
 
--- word by word
-pub ones_more : (xs : List ℕ) (i : ℕ) → i < length xs → ones_of (drop i xs) ≡ ones (get_or xs i 0) + ones_of (drop (i + 1) xs)
-unfolding ones_of
-ones_more xs i h = ap ones_of (drop-cons xs i 0 h) ∙ ap (λ t. ones (get_or xs i 0) + ones_of (drop t xs)) (sym (add-one i))
-
-pub ones_none : (xs : List ℕ) (i : ℕ) → length xs ≤ i → ones_of (drop i xs) ≡ 0
-unfolding ones_of
-ones_none xs i h = ap ones_of (drop_of_length-le xs h)
+-- 64 in each word at most
+pub ones_most : (xs : List ℕ) → ((i : ℕ) → get_or xs i 0 < 2 ^ 64) → ones_of xs ≤ 64 * length xs
+ones_most [] h = omega arith
+ones_most (x ∷ xs) h = omega (arith, sum_by-cons ones x xs, ones-le 64 x (h 0), ones_most xs (λ i. h (suc i)))

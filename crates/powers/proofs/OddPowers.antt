@@ -1,7 +1,7 @@
--- The odd powers of the base modulo m: the first, and how the next is found from one. And that a product fits. Assumes nothing.
+-- The odd powers of the base modulo m: the first, and how the next is found from one. Assumes nothing.
 use mathlib.Core.Path.{◌≡◌, sym, ap, ◌∙◌}
-use Prim.Native.Nat.{ℕ, ◌+◌, ◌*◌, ◌%◌, ◌^◌, ◌<◌}
-use native.Mathlib.Nat.{mul-one, pow-zero, pow-succ', le_of_lt, lt_of_le_of_lt, mul-le-mul_right, mul-lt-mul_of_pos_left}
+use Prim.Native.Nat.{ℕ, ◌+◌, ◌*◌, ◌%◌, ◌^◌}
+use native.Mathlib.Nat.{mul-one, pow-zero, pow-succ'}
 use native.Mathlib.Omega.{arith}
 use lib.Pow.{pow-add}
 use Rattle.meaning.specs.Walks.{multiple}
@@ -30,7 +30,3 @@ module _ (m g : ℕ) where
 
       more : g ^ multiple e * (g * g) ≡ g ^ multiple (e + 1)
       more = ap (λ a. g ^ multiple e * a) (sym square) ∙ sym (pow-add g (multiple e) 2) ∙ ap (λ k. g ^ k) (omega arith)
-
--- a product of two numbers below P is below its square
-pub product_fits : {x y P : ℕ} → 0 < P → x < P → y < P → x * y < P * P
-product_fits {x} {y} {P} n h l = lt_of_le_of_lt (mul-le-mul_right y (le_of_lt h)) (mul-lt-mul_of_pos_left l n)

@@ -1,8 +1,8 @@
 -- The promise of joint: two outcomes that satisfy it for one input are equal; each number exactly when; a refusal leaves all three buffers; and what an acceptance tells:
 -- both rows' worths, that no other sparse rows are worth them, the fewest nonzero columns of all, and the counts of demand 3. Some outcome keeps it at every input. Assumes nothing.
 use mathlib.Core.Path.{◌≡◌, refl, sym, ap, ◌∙◌, subst}
-use mathlib.Core.Logic.{◌≢◌, inl, inr}
-use mathlib.Core.List.{List, [], ◌∷◌, ◌++◌}
+use mathlib.Core.Logic.{◌≢◌}
+use mathlib.Core.List.{List, [], ◌++◌}
 use Prim.Native.Nat.{ℕ, zero, suc, ◌+◌, ◌*◌, ◌-◌, ◌^◌, ◌<◌, ◌≤◌}
 use native.Mathlib.Nat.{le_of_lt}
 use native.Mathlib.Decide.{dec_lt, ℕ_discrete}
@@ -10,7 +10,6 @@ use native.Mathlib.Omega.{arith}
 use lib.IntN.{ℤ, pos}
 use lib.ListN.{length, take, drop}
 use lib.Seq.{take-append_seam}
-use Rattle.laws.proofs.Choices.{not_below}
 use Rattle.meaning.specs.Scalars.{Order, number, bit_count, most_bytes}
 use Rattle.meaning.specs.Digits.{all_in, worth, weight, top}
 use Rattle.meaning.specs.Refusals.{Rule, First}

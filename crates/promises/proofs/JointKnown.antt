@@ -1,7 +1,7 @@
 -- Known pairs: a list of cases, and one theorem that covers it: what the promise of joint determines at each is the listed rows and words. Slips that look right: rows swapped, a pair of rows
 -- that is least and not sparse, two wNAFs side by side. And calls that cannot keep the promise: refusing everything, writing nothing, one fixed pair of rows. Assumes nothing.
 use mathlib.Core.Path.{◌≡◌, refl, sym, ap, ◌∙◌}
-use mathlib.Core.Logic.{◌≢◌, inl, ⊎_elim}
+use mathlib.Core.Logic.{◌≢◌, ⊎_elim}
 use mathlib.Core.List.{List, [], ◌∷◌, ◌++◌}
 use Prim.Native.Nat.{ℕ, zero, suc, ◌+◌, ◌-◌, ◌^◌, ◌<◌, ◌≤◌}
 use native.Mathlib.Omega.{arith}
@@ -13,7 +13,7 @@ use Rattle.meaning.specs.Digits.{in_set, all_in, worth, nonzero, weight, top}
 use Rattle.meaning.specs.Taping.{moves, down, tape_of}
 use Rattle.meaning.specs.Joint.{digit_in, Rows, JointForm, column, columns_of}
 use Rattle.meaning.specs.Joining.{Overlong, joint_rules, Joined, Buffers}
-use Rattle.forms.proofs.Refusals.{first_only, first_none}
+use Rattle.forms.proofs.Refusals.{first_none}
 use Rattle.scalar.proofs.Bytes.{Bytes}
 use Rattle.pairs.specs.Columns.{val, off, rule, row, dig_n, next_n, jsf_n}
 use Rattle.pairs.proofs.Joint.{first_row, second_row, joint_exists, joint_only}

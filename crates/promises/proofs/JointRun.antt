@@ -1,4 +1,4 @@
--- The promise of the joint run: two outcomes that satisfy it for one input are equal, on the plain numbers, on the enum of the answer and on C's struct; each number exactly when; a
+-- The promise of the joint run: two outcomes that satisfy it for one input are equal, on the plain numbers, on the answer itself and on C's struct; each number exactly when; a
 -- refusal leaves the buffer; what the entries cost. Some outcome keeps it at every input. Assumes nothing.
 use mathlib.Core.Path.{◌≡◌, refl, ◌∙◌}
 use mathlib.Core.Logic.{◌≢◌}
@@ -9,20 +9,22 @@ use native.Mathlib.Omega.{arith}
 use lib.Dec.{lit<, lit≤}
 use lib.IntN.{pos}
 use lib.ListN.{length, get_or}
+use Rattle.std.specs.Prelude.{Result}
 use Rattle.meaning.specs.Refusals.{Rule}
 use Rattle.meaning.specs.Words.{most_words, step_of}
-use Rattle.meaning.specs.Walks.{taken, walked, doublings, additions, Good}
+use Rattle.meaning.specs.Walks.{taken, walked, additions, Good}
 use Rattle.meaning.specs.Running as Running
 use Rattle.meaning.specs.Running.{Taking, times}
 use Rattle.meaning.specs.JointRunning.{joint_count, pair_at, pair_value, jointly, joint_entries_of, joint_cost, run_joint_rules, RunJoint}
 use Rattle.forms.proofs.Refusals.{clear, granted_all, kept_lent}
+use Rattle.refusals.specs.declared.Refusal.{Refusal}
 use Rattle.run.specs.declared.Ran.{Ran}
 use Rattle.run.specs.Outcomes.{answer}
 use Rattle.joined.specs.Promises.{Promise}
 use Rattle.sarvundole.specs.declared.exported.Ran as Exported
 use Rattle.sarvundole.specs.Runs.{ran}
 use Rattle.promises.proofs.Exactly.{Exactly, exactly}
-use Rattle.promises.proofs.Run.{residue_same, enum_same, by_same, by_kept}
+use Rattle.promises.proofs.Run.{residue_same, answer_same, by_same, by_kept}
 use Rattle.promises.proofs.Exported.{c_ran_same}
 use Rattle.promises.proofs.Instances.{first_exists, by, word?}
 
@@ -36,9 +38,9 @@ module _ (ws : List ℕ) (m g h : ℕ) (entries₀ : List ℕ) where
   pub run_joint_plain : (a b : Running.Ran) (es fs : List ℕ) → RunJoint ws m g h entries₀ a es → RunJoint ws m g h entries₀ b fs → (a ≡ b) × (es ≡ fs)
   run_joint_plain = by_same rules joint_count ws m sum joint_cost (joint_entries_of m g h) entries₀
 
-  -- on the enum of the answer
-  pub run_joint_determined : (a b : Ran) (es fs : List ℕ) → Promise ws m g h entries₀ a es → Promise ws m g h entries₀ b fs → (a ≡ b) × (es ≡ fs)
-  run_joint_determined a b es fs P Q = let (q, e) = run_joint_plain (answer a) (answer b) es fs P.run Q.run in (enum_same a b P.numbered Q.numbered q, e)
+  -- on the answer itself
+  pub run_joint_determined : (a b : Result Ran Refusal) (es fs : List ℕ) → Promise ws m g h entries₀ a es → Promise ws m g h entries₀ b fs → (a ≡ b) × (es ≡ fs)
+  run_joint_determined a b es fs P Q = let (q, e) = run_joint_plain (answer a) (answer b) es fs P Q in (answer_same a b q, e)
 
   -- and on C's struct
   pub c_run_joint_determined : (a b : Exported.Ran) (es fs : List ℕ) → RunJoint ws m g h entries₀ (ran a) es → RunJoint ws m g h entries₀ (ran b) fs → (a ≡ b) × (es ≡ fs)

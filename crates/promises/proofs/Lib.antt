@@ -35,3 +35,4 @@ pub mod Shorter
 pub mod Choice
 pub mod Lighter
 pub mod SecondChip
+pub mod Results

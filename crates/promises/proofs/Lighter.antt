@@ -161,8 +161,8 @@ pick_kept_by w o s x y =
     whole ds v c = (check_whole w (largest w) (λ _ _. refl) o s ds v).0 c
 
     go : (one other : Tally) → CheckWhole w o s x one → CheckWhole w o s y other → Dec (one.refusal ≡ 0) → Dec (other.refusal ≡ 0) → Dec (one.weight ≤ other.weight) → (a : Picked) × Pick w o s x y a
-    go one other c d (no n) _ _ = (_, first_refused w o s x y c n refl)
-    go one other c d (yes z) (no n) _ = (_, second_refused w o s x y c z d n refl)
+    go one other c d (no n) _ _ = (_, first_refused w o s x y c n)
+    go one other c d (yes z) (no n) _ = (_, second_refused w o s x y c z d n)
     go one other c d (yes z) (yes v) (yes h) = (_, picks_first w o s x y c z d v h)
     go one other c d (yes z) (yes v) (no h) = (_, picks_second w o s x y c z d v (omega arith))
 

@@ -1,4 +1,4 @@
--- The promise of the run over powers: two outcomes that satisfy it for one input are equal, on the plain numbers, on the enum of the answer and on C's struct; each number exactly when;
+-- The promise of the run over powers: two outcomes that satisfy it for one input are equal, on the plain numbers, on the answer itself and on C's struct; each number exactly when;
 -- some outcome keeps it at every input; what the powers cost and how they are made; the tape of a legal string; wrong answers are ruled out, and a case by hand. Assumes nothing.
 use mathlib.Core.Path.{◌≡◌, refl, sym, ap, ◌∙◌}
 use mathlib.Core.Logic.{◌≢◌, ◌⊎◌, inl, inr, ⊎_elim}
@@ -10,6 +10,7 @@ use native.Mathlib.Omega.{arith}
 use lib.Dec.{lit≤}
 use lib.IntN.{ℤ, negsuc}
 use lib.ListN.{length, get_or, take, drop}
+use Rattle.std.specs.Prelude.{Result}
 use Rattle.meaning.specs.Scalars.{Order, number}
 use Rattle.meaning.specs.Digits.{entries, listed, weight, top}
 use Rattle.meaning.specs.Refusals.{Rule, First, granted, kept}
@@ -23,6 +24,7 @@ use Rattle.width.proofs.Widths.{set_fine, pair_of}
 use Rattle.walk.specs.Powers.{products}
 use Rattle.walk.proofs.Lengths.{tape_fits}
 use Rattle.walk.proofs.Multiples.{made_listed}
+use Rattle.refusals.specs.declared.Refusal.{Refusal}
 use Rattle.run.specs.declared.Ran.{Ran}
 use Rattle.run.specs.Outcomes.{answer}
 use Rattle.powers.specs.Outcomes.{Promise}
@@ -31,7 +33,7 @@ use Rattle.powers.proofs.Together.{together_accepted, together, together_scalar}
 use Rattle.sarvundole.specs.declared.exported.Ran as Exported
 use Rattle.sarvundole.specs.Runs.{ran}
 use Rattle.promises.proofs.Exactly.{Exactly, exactly}
-use Rattle.promises.proofs.Run.{ran_same, enum_same}
+use Rattle.promises.proofs.Run.{ran_same, answer_same}
 use Rattle.promises.proofs.Exported.{c_ran_same}
 use Rattle.promises.proofs.Tape as Taping
 use Rattle.promises.proofs.Check.{Legal}
@@ -60,11 +62,11 @@ module _ (w l : ℕ) (ws : List ℕ) (m g i : ℕ) (powers₀ inverses₀ : List
         K.inverses_are ∙ ap (λ t. kept t (powers_of count m i ++ drop count inverses₀) inverses₀) r ∙ sym L.inverses_are,
       )
 
-  -- on the enum of the answer
-  pub powers_determined : (a b : Ran) (ps qs is js : List ℕ) → Promise w l ws m g i powers₀ inverses₀ a ps is → Promise w l ws m g i powers₀ inverses₀ b qs js → (a ≡ b) × (ps ≡ qs) × (is ≡ js)
+  -- on the answer itself
+  pub powers_determined : (a b : Result Ran Refusal) (ps qs is js : List ℕ) → Promise w l ws m g i powers₀ inverses₀ a ps is → Promise w l ws m g i powers₀ inverses₀ b qs js → (a ≡ b) × (ps ≡ qs) × (is ≡ js)
   powers_determined a b ps qs is js P Q =
-      let (e, f, h) = powers_plain (answer a) (answer b) ps qs is js P.run Q.run in
-      (enum_same a b P.numbered Q.numbered e, f, h)
+      let (e, f, h) = powers_plain (answer a) (answer b) ps qs is js P Q in
+      (answer_same a b e, f, h)
 
   -- and on C's struct
   pub c_powers_determined : (a b : Exported.Ran) (ps qs is js : List ℕ) → Powers w l ws m g i powers₀ inverses₀ (ran a) ps is → Powers w l ws m g i powers₀ inverses₀ (ran b) qs js → (a ≡ b) × (ps ≡ qs) × (is ≡ js)

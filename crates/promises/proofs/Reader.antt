@@ -7,19 +7,18 @@ use Prim.Native.Nat.{ℕ, suc, ◌+◌, ◌≤◌}
 use native.Mathlib.Omega.{arith}
 use lib.Count.{count_trailing_zeros}
 use lib.Dec.{lit≤}
-use lib.IntN.{nat_abs}
+use lib.IntN.{ℤ, nat_abs}
 use denote.Ref.{Bor}
+use Rattle.std.specs.Prelude.{Option, Some, None}
 use Rattle.meaning.specs.Scalars.{Order, highest_first, number}
 use Rattle.meaning.specs.Windows.{window_worth, shrink}
 use Rattle.meaning.specs.Wmof.{wmof_under, wmof}
 use Rattle.meaning.specs.Reading.{Holds, reader_rules, sequence, Read, digit, done, read_at}
 use Rattle.forms.proofs.Refusals.{first_only, first_none}
-use Rattle.reader.specs.declared.Next.{Next}
-use Rattle.reader.specs.declared.Next.TheVariants.{Digit, Done}
 use Rattle.reader.specs.declared.Reader.{Reader}
 use Rattle.reader.specs.declared.Reading.{Reading}
 use Rattle.reader.specs.States.{starting, after}
-use Rattle.reader.specs.Calls.{read_of, state_of, reader_of, Made, Called, Answered}
+use Rattle.reader.specs.Calls.{read_of, Made, Called, Answered}
 use Rattle.reader.proofs.Calls.{answer_at}
 
 -- one number held
@@ -27,11 +26,11 @@ pub same_number : (w : ℕ) (s : List ℕ) (r r' : ℕ) → Holds w s r → Hold
 same_number w s r r' a b = (first_only (reader_rules w s) a b).0
 
 -- what a call gives is told by document 01's
-read_same : (a b : Next) → read_of a ≡ read_of b → a ≡ b
-read_same (Digit d) (Digit e) h = cc
-read_same (Digit d) Done h = let z : ◌≡◌ {A = ℕ} 0 1 = cc in absurd (omega arith)
-read_same Done (Digit e) h = let z : ◌≡◌ {A = ℕ} 0 1 = cc in absurd (omega arith)
-read_same Done Done h = refl
+read_same : (a b : Option ℤ) → read_of a ≡ read_of b → a ≡ b
+read_same (Some d) (Some e) h = cc
+read_same (Some d) None h = let z : ◌≡◌ {A = ℕ} 0 1 = cc in absurd (omega arith)
+read_same None (Some e) h = let z : ◌≡◌ {A = ℕ} 0 1 = cc in absurd (omega arith)
+read_same None None h = refl
 
 -- `read_at`
 pub read_at_determined : (w : ℕ) (order : Order) (s : List ℕ) (k : ℕ) (a b : Reading) → Answered w order s k a → Answered w order s k b → a ≡ b
@@ -43,12 +42,12 @@ read_at_determined w order s k a b A B =
 -- `new`
 pub new_determined : (w : ℕ) (order : Order) (s : Bor (List ℕ)) (a b : Reader) → Made w order s a → Made w order s b → a ≡ b
 new_determined w order s a b A B =
-    let r = same_number w s.now a.refusal b.refusal A.state_is.holds B.state_is.holds in
+    let r = same_number w s.now a.state.refusal b.state.refusal A.state_is.holds B.state_is.holds in
     let q = A.state_is.state_is ∙ ap (λ x. after s.now (starting x w order s.now) 0) r ∙ sym B.state_is.state_is in
-    ap (λ x. reader_of x (state_of a)) (A.scalar_is ∙ sym B.scalar_is) ∙ ap (reader_of b.scalar) q
+    ap (λ x. record { scalar = x; state = a.state }) (A.scalar_is ∙ sym B.scalar_is) ∙ ap (λ x. record { scalar = b.scalar; state = x }) q
 
 -- `next`, from any reader
-pub next_determined : (before a b : Reader) (m n : Next) → Called before a m → Called before b n → (a ≡ b) × (m ≡ n)
+pub next_determined : (before a b : Reader) (m n : Option ℤ) → Called before a m → Called before b n → (a ≡ b) × (m ≡ n)
 next_determined before a b m n A B = (A.after_is ∙ sym B.after_is, A.next_is ∙ sym B.next_is)
 
 -- ---- ruled out
@@ -88,7 +87,7 @@ module _ (answer : ℕ → Read) (given : (k : ℕ) → answer k ≡ read_at (se
 -- ---- `new` and a chain of `next`: a reader made from every width and scalar, what `next` makes of it call by call, and what it gives
 pub record Readers : Type 1 where
   pub reader : (w : ℕ) (order : Order) (s : Bor (List ℕ)) (k : ℕ) → Reader
-  pub answer : (w : ℕ) (order : Order) (s : Bor (List ℕ)) (k : ℕ) → Next
+  pub answer : (w : ℕ) (order : Order) (s : Bor (List ℕ)) (k : ℕ) → Option ℤ
   pub made : (w : ℕ) (order : Order) (s : Bor (List ℕ)) → Made w order s (reader w order s 0)
   pub called : (w : ℕ) (order : Order) (s : Bor (List ℕ)) (k : ℕ) → Called (reader w order s k) (reader w order s (suc k)) (answer w order s k)
 
@@ -98,17 +97,17 @@ module _ (c : Readers) (s : Bor (List ℕ)) (thirteen : s.now ≡ 13 ∷ []) whe
 
   chained : (k : ℕ) → answers k ≡ read_at (sequence 0 2 highest_first (13 ∷ [])) k
   chained k =
-      let held = same_number 2 (13 ∷ []) (c.reader 2 highest_first s 0).refusal 0 (subst (λ x. Holds 2 x (c.reader 2 highest_first s 0).refusal) thirteen (c.made 2 highest_first s).state_is.holds) holds_none in
+      let held = same_number 2 (13 ∷ []) (c.reader 2 highest_first s 0).state.refusal 0 (subst (λ x. Holds 2 x (c.reader 2 highest_first s 0).state.refusal) thirteen (c.made 2 highest_first s).state_is.holds) holds_none in
       answer_at 2 highest_first s (c.reader 2 highest_first s) (c.answer 2 highest_first s) (c.made 2 highest_first s) (c.called 2 highest_first s) k ∙ ap (λ r. read_at (sequence r 2 highest_first s.now) k) held ∙ ap (λ x. read_at (sequence 0 2 highest_first x) k) thirteen
 
   pub next_not_fading : ((w : ℕ) (order : Order) (r : Bor (List ℕ)) (j k : ℕ) → j + w ≤ k → size (read_of (c.answer w order r j)) ≢ 0 → size (read_of (c.answer w order r k)) ≡ 0) → ⊥
   next_not_fading f = not_fading answers chained (f 2 highest_first s)
 
-  pub next_not_done : ((w : ℕ) (order : Order) (r : Bor (List ℕ)) (k : ℕ) → c.answer w order r k ≡ Done) → ⊥
+  pub next_not_done : ((w : ℕ) (order : Order) (r : Bor (List ℕ)) (k : ℕ) → c.answer w order r k ≡ None) → ⊥
   next_not_done f = not_done answers chained (λ k. ap read_of (f 2 highest_first s k))
 
-  pub next_not_endless : ((w : ℕ) (order : Order) (r : Bor (List ℕ)) (k : ℕ) → c.answer w order r k ≢ Done) → ⊥
-  next_not_endless f = not_endless answers chained (λ k e. f 2 highest_first s k (read_same (c.answer 2 highest_first s k) Done e))
+  pub next_not_endless : ((w : ℕ) (order : Order) (r : Bor (List ℕ)) (k : ℕ) → c.answer w order r k ≢ None) → ⊥
+  next_not_endless f = not_endless answers chained (λ k e. f 2 highest_first s k (read_same (c.answer 2 highest_first s k) None e))
 
 -- ---- `read_at`: what it gives at each number of calls, for every width and scalar
 pub record Readings : Type 0 where
@@ -127,5 +126,5 @@ module _ (c : Readings) where
   pub reader_not_fading : ((w : ℕ) (order : Order) (s : List ℕ) (j k : ℕ) → j + w ≤ k → size (read_of (c.read w order s j).next) ≢ 0 → size (read_of (c.read w order s k).next) ≡ 0) → ⊥
   reader_not_fading f = not_fading reads given_at (f 2 highest_first (13 ∷ []))
 
-  pub reader_not_done : ((w : ℕ) (order : Order) (s : List ℕ) (k : ℕ) → (c.read w order s k).next ≡ Done) → ⊥
+  pub reader_not_done : ((w : ℕ) (order : Order) (s : List ℕ) (k : ℕ) → (c.read w order s k).next ≡ None) → ⊥
   reader_not_done f = not_done reads given_at (λ k. ap read_of (f 2 highest_first (13 ∷ []) k))

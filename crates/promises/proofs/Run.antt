@@ -1,4 +1,4 @@
--- The promise of a run: two outcomes that satisfy it for one input are equal, on the plain numbers and on the enum of the answer; and some outcome satisfies it. Assumes nothing.
+-- The promise of a run: two outcomes that satisfy it for one input are equal, on the plain numbers and on the answer itself; and some outcome satisfies it. Assumes nothing.
 use mathlib.Core.Path.{◌≡◌, refl, sym, ap, ◌∙◌}
 use mathlib.Core.Logic.{◌≢◌}
 use mathlib.Core.List.{List, [], ◌∷◌, ◌++◌}
@@ -6,6 +6,7 @@ use Prim.Native.Nat.{ℕ, zero, suc}
 use native.Mathlib.Decide.{ℕ_discrete}
 use native.Mathlib.Omega.{arith}
 use lib.IntN.{ℤ}
+use Rattle.std.specs.Prelude.{Result, Ok, Err}
 use lib.ListN.{length, drop}
 use Rattle.laws.proofs.Choices.{not_below}
 use Rattle.laws.proofs.Division.{floor, same_floor}
@@ -16,10 +17,11 @@ use Rattle.meaning.specs.Multiples.{Cost, cost_of}
 use Rattle.meaning.specs.Running as Running
 use Rattle.meaning.specs.Running.{multiples_of, Residue, run_rules, Taking, times, total, RunBy, Run}
 use Rattle.forms.proofs.Refusals.{first_only}
-use Rattle.run.specs.declared.Outcome.{Outcome}
-use Rattle.run.specs.declared.Outcome.TheVariants as variants
+use Rattle.refusals.specs.declared.Refusal.{Refusal}
+use Rattle.refusals.specs.Coded.{coded}
+use Rattle.refusals.proofs.Coded.{coded_some, refusal_same}
 use Rattle.run.specs.declared.Ran.{Ran}
-use Rattle.run.specs.Outcomes.{refusal_of, place_of, residue_of, Numbered, answer, Promise}
+use Rattle.run.specs.Outcomes.{answer, Promise}
 
 -- one residue only
 pub residue_same : (m : ℕ) (z : ℤ) (x y : ℕ) → Residue m z x → Residue m z y → x ≡ y
@@ -38,28 +40,23 @@ ran_same a b r p x d n k l =
     ≡ told b.refusal b.place b.residue b.doublings b.additions b.cost.doublings b.cost.additions = cc in
     e
 
--- an outcome is told by its number, its place and its residue, where no refusal has the number 0
-outcome_same : (a b : Outcome) → Numbered a → Numbered b → refusal_of a ≡ refusal_of b → place_of a ≡ place_of b → residue_of a ≡ residue_of b → a ≡ b
-outcome_same (variants.Residue x) (variants.Residue y) n k r p e = ap variants.Residue e
-outcome_same (variants.Residue x) (variants.Refused g) n k r p e = absurd (k (sym r))
-outcome_same (variants.Refused f) (variants.Residue y) n k r p e = absurd (n r)
-outcome_same (variants.Refused f) (variants.Refused g) n k r p e =
-    ap (λ x. variants.Refused (record { number = x; place = f.place })) r ∙ ap (λ x. variants.Refused (record { number = g.number; place = x })) p
+-- so on the answer itself, since no refusal has the number 0
+made : (x d n k l : ℕ) → Result Ran Refusal
+made x d n k l = Ok (record { residue = x; doublings = d; additions = n; cost = record { doublings = k; additions = l } })
 
--- so on the enum of the answer
-made : Outcome → (d n k l : ℕ) → Ran
-made o d n k l = record { outcome = o; doublings = d; additions = n; cost = record { doublings = k; additions = l } }
-
-pub enum_same : (a b : Ran) → Numbered a.outcome → Numbered b.outcome → answer a ≡ answer b → a ≡ b
+pub answer_same : (a b : Result Ran Refusal) → answer a ≡ answer b → a ≡ b
 unfolding made
-enum_same a b s t q =
-    let o = outcome_same a.outcome b.outcome s t (ap (λ (x : Running.Ran). x.refusal) q) (ap (λ (x : Running.Ran). x.place) q) (ap (λ (x : Running.Ran). x.residue) q) in
+answer_same (Ok r) (Ok s) q =
+    let x = ap (λ (x : Running.Ran). x.residue) q in
     let d = ap (λ (x : Running.Ran). x.doublings) q in
     let n = ap (λ (x : Running.Ran). x.additions) q in
     let k = ap (λ (x : Running.Ran). x.cost.doublings) q in
     let l = ap (λ (x : Running.Ran). x.cost.additions) q in
-    let same : made a.outcome a.doublings a.additions a.cost.doublings a.cost.additions ≡ made b.outcome b.doublings b.additions b.cost.doublings b.cost.additions = cc in
+    let same : made r.residue r.doublings r.additions r.cost.doublings r.cost.additions ≡ made s.residue s.doublings s.additions s.cost.doublings s.cost.additions = cc in
     same
+answer_same (Ok r) (Err g) q = absurd (coded_some g.reason (sym (ap (λ (x : Running.Ran). x.refusal) q)))
+answer_same (Err f) (Ok s) q = absurd (coded_some f.reason (ap (λ (x : Running.Ran). x.refusal) q))
+answer_same (Err f) (Err g) q = ap Err (refusal_same f g (ap (λ (x : Running.Ran). x.refusal) q) (ap (λ (x : Running.Ran). x.place) q))
 
 -- ---- any run over residues
 module _ (rules : List Rule) (count : ℕ) (ws : List ℕ) (m : ℕ) (sum : List Taking) (cost : Cost) (stored multiples₀ : List ℕ) where
@@ -118,5 +115,5 @@ module _ (w l : ℕ) (ws : List ℕ) (m g : ℕ) (multiples₀ : List ℕ) where
   pub run_plain : (a b : Running.Ran) (ms ns : List ℕ) → Run w l ws m g multiples₀ a ms → Run w l ws m g multiples₀ b ns → (a ≡ b) × (ms ≡ ns)
   run_plain = by_same (run_rules w l ws m (length multiples₀)) count ws m (times (tape_value ws) g ∷ []) (cost_of count) (multiples_of count m g) multiples₀
 
-  pub run_determined : (a b : Ran) (ms ns : List ℕ) → Promise w l ws m g multiples₀ a ms → Promise w l ws m g multiples₀ b ns → (a ≡ b) × (ms ≡ ns)
-  run_determined a b ms ns P Q = let (q, e) = run_plain (answer a) (answer b) ms ns P.run Q.run in (enum_same a b P.numbered Q.numbered q, e)
+  pub run_determined : (a b : Result Ran Refusal) (ms ns : List ℕ) → Promise w l ws m g multiples₀ a ms → Promise w l ws m g multiples₀ b ns → (a ≡ b) × (ms ≡ ns)
+  run_determined a b ms ns P Q = let (q, e) = run_plain (answer a) (answer b) ms ns P Q in (answer_same a b q, e)

@@ -8,6 +8,7 @@ use native.Mathlib.Decide.{dec_lt, ℕ_discrete}
 use native.Mathlib.Omega.{arith}
 use lib.Dec.{lit<, lit≤}
 use lib.ListN.{length, get_or, drop}
+use Rattle.std.specs.Prelude.{Result, Ok, Err}
 use Rattle.meaning.specs.Digits.{entries}
 use Rattle.meaning.specs.Sets.{Pair}
 use Rattle.meaning.specs.Refusals.{Rule, lowest, granted, kept}
@@ -20,14 +21,17 @@ use Rattle.meaning.specs.SecondChip as SecondChip
 use Rattle.meaning.specs.SecondChip.{second_value, translation, translate_rules, Translate, SecondGood, SecondBad, second_rules, second_multiples_of, RunSecond}
 use Rattle.forms.proofs.Refusals.{first_only, clear, granted_all, kept_lent, kept_written}
 use Rattle.width.proofs.Widths.{set_fine, whole_pair}
+use Rattle.refusals.specs.declared.Reason.{Reason}
+use Rattle.refusals.specs.declared.Refusal.{Refusal}
+use Rattle.refusals.proofs.Coded.{coded_some, refusal_same}
 use Rattle.run.specs.declared.Ran.{Ran}
 use Rattle.run.specs.Outcomes.{answer}
 use Rattle.second.specs.declared.Translated.{Translated}
-use Rattle.second.specs.Promises.{translated, Promise}
+use Rattle.second.specs.Promises.{answered, translated, Promise}
 use Rattle.sarvundole.specs.declared.exported.Ran as Exported
 use Rattle.sarvundole.specs.Runs.{ran}
 use Rattle.promises.proofs.Exactly.{Exactly, exactly}
-use Rattle.promises.proofs.Run.{enum_same, by_same, by_kept}
+use Rattle.promises.proofs.Run.{answer_same, by_same, by_kept}
 use Rattle.promises.proofs.Exported.{c_ran_same}
 use Rattle.promises.proofs.Instances.{Decided, first_exists, by, among, and?, not?, width?, set?, good?, word?}
 
@@ -35,6 +39,13 @@ use Rattle.promises.proofs.Instances.{Decided, first_exists, by, among, and?, no
 -- answers are equal by their fields
 told : (r p n : ℕ) → SecondChip.Translated
 told r p n = record { refusal = r; place = p; words = n }
+
+-- a count of words, or a refusal, which has no number 0
+translated_same : (a b : Result ℕ Refusal) → answered a ≡ answered b → a ≡ b
+translated_same (Ok n) (Ok k) q = ap Ok (ap (λ (x : SecondChip.Translated). x.words) q)
+translated_same (Ok n) (Err g) q = absurd (coded_some g.reason (sym (ap (λ (x : SecondChip.Translated). x.refusal) q)))
+translated_same (Err f) (Ok k) q = absurd (coded_some f.reason (ap (λ (x : SecondChip.Translated). x.refusal) q))
+translated_same (Err f) (Err g) q = ap Err (refusal_same f g (ap (λ (x : SecondChip.Translated). x.refusal) q) (ap (λ (x : SecondChip.Translated). x.place) q))
 
 module _ (w l : ℕ) (ws words₀ : List ℕ) where
   abbrev translating : List Rule
@@ -51,9 +62,13 @@ module _ (w l : ℕ) (ws words₀ : List ℕ) where
       let same : told a.refusal a.place a.words ≡ told b.refusal b.place b.words = cc in
       (same, K.words_are ∙ ap (λ t. kept t made words₀) r ∙ sym L.words_are)
 
-  -- on the answer itself, which is C's struct too
-  pub translate_determined : (a b : Translated) (us vs : List ℕ) → Translate w l ws words₀ (translated a) us → Translate w l ws words₀ (translated b) vs → (a ≡ b) × (us ≡ vs)
-  translate_determined a b us vs K L = let (q, e) = translate_plain (translated a) (translated b) us vs K L in (ap struct q, e)
+  -- on the answer itself
+  pub translate_determined : (a b : Result ℕ Refusal) (us vs : List ℕ) → Translate w l ws words₀ (answered a) us → Translate w l ws words₀ (answered b) vs → (a ≡ b) × (us ≡ vs)
+  translate_determined a b us vs K L = let (q, e) = translate_plain (answered a) (answered b) us vs K L in (translated_same a b q, e)
+
+  -- and on C's struct
+  pub c_translate_determined : (a b : Translated) (us vs : List ℕ) → Translate w l ws words₀ (translated a) us → Translate w l ws words₀ (translated b) vs → (a ≡ b) × (us ≡ vs)
+  c_translate_determined a b us vs K L = let (q, e) = translate_plain (translated a) (translated b) us vs K L in (ap struct q, e)
     where
       struct : SecondChip.Translated → Translated
       struct t = record { refusal = t.refusal; place = t.place; words = t.words }
@@ -102,9 +117,9 @@ module _ (w l : ℕ) (ws : List ℕ) (m g : ℕ) (multiples₀ : List ℕ) where
   pub run_second_plain : (a b : Running.Ran) (ms ns : List ℕ) → RunSecond w l ws m g multiples₀ a ms → RunSecond w l ws m g multiples₀ b ns → (a ≡ b) × (ms ≡ ns)
   run_second_plain = by_same rules (2 * count) ws m sum (cost_of count) (second_multiples_of count m g) multiples₀
 
-  -- on the enum of the answer
-  pub run_second_determined : (a b : Ran) (ms ns : List ℕ) → Promise w l ws m g multiples₀ a ms → Promise w l ws m g multiples₀ b ns → (a ≡ b) × (ms ≡ ns)
-  run_second_determined a b ms ns P Q = let (q, e) = run_second_plain (answer a) (answer b) ms ns P.run Q.run in (enum_same a b P.numbered Q.numbered q, e)
+  -- on the answer itself
+  pub run_second_determined : (a b : Result Ran Refusal) (ms ns : List ℕ) → Promise w l ws m g multiples₀ a ms → Promise w l ws m g multiples₀ b ns → (a ≡ b) × (ms ≡ ns)
+  run_second_determined a b ms ns P Q = let (q, e) = run_second_plain (answer a) (answer b) ms ns P Q in (answer_same a b q, e)
 
   -- and on C's struct
   pub c_run_second_determined : (a b : Exported.Ran) (ms ns : List ℕ) → RunSecond w l ws m g multiples₀ (ran a) ms → RunSecond w l ws m g multiples₀ (ran b) ns → (a ≡ b) × (ms ≡ ns)

@@ -6,31 +6,26 @@ use mathlib.Core.List.{List, [], ◌∷◌}
 use Prim.Native.Nat.{ℕ, zero, suc, ◌+◌, ◌-◌, ◌≤◌, ◌<◌}
 use native.Mathlib.Nat.{add-zero, add-suc, sub-zero}
 use native.Mathlib.Omega.{arith}
+use borrow.Author.Rules.{rules}
 use denote.Ref.{Bor}
 use lib.IntN.{ℤ, pos}
-use lib.ListN.{length, length-reverse}
-use Rattle.meaning.specs.Scalars.{Order, number, code_of, order_of, bit_count}
-use Rattle.meaning.specs.Wmof.{wmof}
+use lib.ListN.{length}
+use Rattle.meaning.specs.Scalars.{Order, code_of, order_of}
 use Rattle.meaning.specs.Reading.{Holds, sequence, digit, done, read_at}
 use Rattle.forms.proofs.Refusals.{kept_lent}
 use Rattle.scalar.proofs.Orders.{code_tells}
-use Rattle.reader.specs.declared.Next.{Next}
-use Rattle.reader.specs.declared.Next.TheVariants.{Digit, Done}
+use Rattle.std.specs.Prelude.{Option, Some, None, OnSome, IfNone, ⊤}
+use Rattle.std.specs.Iterator.{at_most, MakesProgress}
 use Rattle.reader.specs.declared.Reader.{Reader}
 use Rattle.reader.specs.declared.State.{State}
 use Rattle.reader.specs.declared.Taken.{Taken}
 use Rattle.reader.specs.States.{digit_at, starting, call, moved, after, After}
-use Rattle.reader.specs.Calls.{read_of, state_of, reader_of, Made, Called}
+use Rattle.reader.specs.Calls.{read_of, Made, Called}
 use Rattle.reader.proofs.Starts.{held_wide, held_short}
-use Rattle.reader.proofs.Takes.{Passes, takes_inside, takes_none}
-use Rattle.reader.proofs.Stands.{given, given_done, size, reads_all}
+use Rattle.reader.proofs.Takes.{Passes, takes_inside, takes_none, takes_falls}
+use Rattle.reader.proofs.Stands.{given, given_done, reads_all}
 
 -- ---- document 01's sequence
--- it has n + 1 digits
-pub sequence_length : (w : ℕ) (o : Order) (s : List ℕ) → Holds w s 0 → length (sequence 0 w o s) ≡ bit_count s + 1
-sequence_length w o s h =
-    length-reverse (wmof w (number o s) (bit_count s)) ∙ ap (λ p. length (wmof w (number p s) (bit_count s))) (sym (code_tells o)) ∙ size w (code_of o) s (held_wide w s h) (held_short w s h)
-
 -- past its end there is nothing
 pub read_past : (ds : List ℤ) (k : ℕ) → length ds ≤ k → read_at ds k ≡ done
 unfolding read_at
@@ -119,48 +114,66 @@ module _ {w : ℕ} {o : Order} {s : List ℕ} where
   after_start A = record { holds = A.holds; state_is = ap (λ x. record { place = x.place; width = w; pending = pos 0; spot = 0; floor = x.place; refusal = x.refusal; order = x.order }) A.state_is }
 
 -- ---- readers
--- `next` keeps its promise where it takes t and stores it
-pub calls : (before : Reader) (t : Taken) → t ≡ call before.scalar.now (state_of before) → Called before (reader_of before.scalar (moved (state_of before) t)) t.next
-calls before t e =
+-- `next` keeps its promise
+pub calls : (before : Reader) → let t = call before.scalar.now before.state in Called before (record { scalar = before.scalar; state = moved before.state t }) t.next
+calls before = record { next_is = refl; after_is = refl; reads = λ w o k A. after_reads A; counts = λ w o k A. after_call A }
+
+-- and each digit that it gives leaves fewer places to come
+goes_on : {A P Q : Type 0} (o : Option A) → (P → Q) → OnSome o P → OnSome o Q
+goes_on None f x = x
+goes_on (Some a) f x = f x
+
+holds_on : {A Q : Type 0} (o : Option A) → Q → OnSome o Q
+holds_on None x = tt
+holds_on (Some a) x = x
+
+ends_on : {A Q : Type 0} (o : Option A) → Q → IfNone o Q
+ends_on None x = x
+ends_on (Some a) x = tt
+
+pub goes : (before : Reader) → let t = call before.scalar.now before.state in
+    MakesProgress (λ (_ : Reader). ⊤) (λ r. at_most r.state.place) before t.next (record { scalar = before.scalar; state = moved before.state t })
+goes before =
+    let q = before.state in
+    let t = call before.scalar.now q in
     record {
-      next_is = ap (λ x. x.next) e;
-      after_is = ap (λ x. reader_of before.scalar (moved (state_of before) x)) e;
-      reads = λ w o k A. ap (λ x. read_of x.next) e ∙ after_reads A;
-      counts = λ w o k A. subst (λ x. After w o before.scalar.now (suc k) (moved (state_of before) x)) (sym e) (after_call A);
+      on = λ f. goes_on t.next (λ h. (tt, search rules, h)) (takes_falls (order_of q.order) before.scalar.now q.place q.width q.pending q.spot q.floor);
+      keeps = holds_on t.next tt;
+      rests = λ f. ends_on t.next (search rules);
     }
 
 -- done is done
-is_done : (n : Next) → read_of n ≡ done → n ≡ Done
-is_done (Digit d) e = absurd (let z : ◌≡◌ {A = ℕ} 0 1 = cc in omega arith)
-is_done Done e = refl
+is_done : (n : Option ℤ) → read_of n ≡ done → n ≡ None
+is_done (Some d) e = absurd (let z : ◌≡◌ {A = ℕ} 0 1 = cc in omega arith)
+is_done None e = refl
 
 -- a reader made by `new` from w and s, in an order, and all that `next` makes of it and gives
-module _ (w : ℕ) (o : Order) (s : Bor (List ℕ)) (readers : ℕ → Reader) (answers : ℕ → Next) (made : Made w o s (readers 0)) (called : (k : ℕ) → Called (readers k) (readers (suc k)) (answers k)) where
+module _ (w : ℕ) (o : Order) (s : Bor (List ℕ)) (readers : ℕ → Reader) (answers : ℕ → Option ℤ) (made : Made w o s (readers 0)) (called : (k : ℕ) → Called (readers k) (readers (suc k)) (answers k)) where
   -- the scalar stays lent
   pub scalar_at : (k : ℕ) → (readers k).scalar ≡ s
   scalar_at zero = made.scalar_is
   scalar_at (suc k) = ap (λ r. r.scalar) (called k).after_is ∙ scalar_at k
 
   -- the number stays held
-  pub refusal_at : (k : ℕ) → (readers k).refusal ≡ (readers 0).refusal
+  pub refusal_at : (k : ℕ) → (readers k).state.refusal ≡ (readers 0).state.refusal
   refusal_at zero = refl
-  refusal_at (suc k) = ap (λ r. r.refusal) (called k).after_is ∙ refusal_at k
+  refusal_at (suc k) = ap (λ r. r.state.refusal) (called k).after_is ∙ refusal_at k
 
   -- the reader has been called k times
-  pub state_at : (k : ℕ) → After w o s.now k (state_of (readers k))
+  pub state_at : (k : ℕ) → After w o s.now k (readers k).state
   state_at zero = made.state_is
   state_at (suc k) = (rw (scalar_at k) at ((called k).counts w o k)) (state_at k)
 
   -- and the next call gives its sequence's digit at k
-  pub answer_at : (k : ℕ) → read_of (answers k) ≡ read_at (sequence (readers 0).refusal w o s.now) k
+  pub answer_at : (k : ℕ) → read_of (answers k) ≡ read_at (sequence (readers 0).state.refusal w o s.now) k
   answer_at k = rw (refusal_at k) at ((rw (scalar_at k) at ((called k).reads w o k)) (state_at k))
 
   -- past the end, done
-  pub done_past : (k : ℕ) → length (sequence (readers 0).refusal w o s.now) ≤ k → answers k ≡ Done
-  done_past k h = is_done (answers k) (answer_at k ∙ read_past (sequence (readers 0).refusal w o s.now) k h)
+  pub done_past : (k : ℕ) → length (sequence (readers 0).state.refusal w o s.now) ≤ k → answers k ≡ None
+  done_past k h = is_done (answers k) (answer_at k ∙ read_past (sequence (readers 0).state.refusal w o s.now) k h)
 
   -- in a refusal, done at once
-  pub done_refused : (readers 0).refusal ≢ 0 → (k : ℕ) → answers k ≡ Done
+  pub done_refused : (readers 0).state.refusal ≢ 0 → (k : ℕ) → answers k ≡ None
   done_refused n k =
-      let e : length (sequence (readers 0).refusal w o s.now) ≡ 0 = ap length (kept_lent (readers 0).refusal (sequence 0 w o s.now) [] n) in
+      let e : length (sequence (readers 0).state.refusal w o s.now) ≡ 0 = ap length (kept_lent (readers 0).state.refusal (sequence 0 w o s.now) [] n) in
       done_past k (omega arith)

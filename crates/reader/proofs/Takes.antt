@@ -2,25 +2,26 @@
 -- Assumes nothing.
 use mathlib.Core.Path.{◌≡◌, refl, ◌∙◌}
 use mathlib.Core.Logic.{◌≢◌, ◌⊎◌, inl, inr}
+use mathlib.Core.Bool.{◌&&◌}
 use mathlib.Core.List.{List}
 use Prim.Native.Nat.{ℕ, suc, ◌-◌, ◌≤◌, ◌<◌}
 use native.Mathlib.Omega.{arith}
-use lib.Dec.{eqb}
+use lib.Dec.{T, eqb, leb, ltb, ltb→lt}
 use lib.IntN.{ℤ, pos}
 use borrow.Author.Tests.{lt-ltb, le-ltb, le-leb, lt-leb, eq-eqb, ne_eqb}
-use Rattle.laws.proofs.Choices.{either}
+use Rattle.laws.proofs.Choices.{either, and_both}
 use Rattle.meaning.specs.Scalars.{Order, number, bit, below}
 use Rattle.meaning.specs.Digits.{least_width, most_width, most_places}
 use Rattle.meaning.specs.Windows.{odd_part}
 use Rattle.meaning.specs.Wmof.{window_at, spot}
 use Rattle.width.specs.Widths.{Wide}
 use Rattle.reader.specs.declared.Taken.{Taken}
-use Rattle.reader.specs.declared.Next.TheVariants.{Digit}
-use Rattle.reader.specs.States.{digit_at, passed, opened, ended, fresh, taken}
+use Rattle.std.specs.Prelude.{Some, OnSome}
+use Rattle.reader.specs.States.{digit_at, passed, opened, openable, ended, fresh, taken}
 
 -- t passes place i, in a window down to its floor
 pub record Passes (i : ℕ) (t : Taken) : Type 0 where
-  pub next_is : t.next ≡ Digit (digit_at i t.pending t.spot)
+  pub next_is : t.next ≡ Some (digit_at i t.pending t.spot)
   pub place_is : t.place ≡ i
   pub floor_le : t.floor ≤ i
 
@@ -83,3 +84,21 @@ module _ (o : Order) (s : List ℕ) (m w : ℕ) (d : ℤ) (p f : ℕ) where
   -- no place to come
   pub takes_none : m ≤ 0 → ended d p f ≡ taken o s m w d p f
   takes_none h = fresh_none h ∙ takes_fresh (omega arith)
+
+  -- a digit is one of the places to come
+  abbrev Falls : Taken → Type 0
+  Falls t = OnSome t.next (t.place < m)
+
+  openable_some : T (openable m w) → 0 < m
+  openable_some t =
+      let (wide, _) = and_both (ltb 0 m && leb m most_places && leb least_width w) (leb w most_width) t in
+      let (places, _) = and_both (ltb 0 m && leb m most_places) (leb least_width w) wide in
+      ltb→lt 0 m (and_both (ltb 0 m) (leb m most_places) places).0
+
+  opened_falls : 0 < m → Falls (opened w (number o s) (m - 1))
+  unfolding opened
+  opened_falls h = either Falls (eqb (bit (number o s) (m - 1)) (below (number o s) (m - 1))) (λ _. omega arith) (λ _. omega arith)
+
+  pub takes_falls : let t = taken o s m w d p f in OnSome t.next (t.place < m)
+  unfolding fresh taken
+  takes_falls = either Falls (ltb f m) (λ t. let h = ltb→lt f m t in omega arith) (λ _. either Falls (openable m w) (λ t. opened_falls (openable_some t)) (λ _. tt))

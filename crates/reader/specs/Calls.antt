@@ -1,44 +1,34 @@
 -- What the calls of a reader promise: the number that it holds, and what each call gives, in the words of document 01.
 -- Assumes nothing.
-use Rattle.std.specs.Prelude.{◌≡◌, List, ℕ, suc, ◌-◌}
+use Rattle.std.specs.Prelude.{◌≡◌, List, ℕ, suc, ◌-◌, ℤ, Option, Some, None}
 use Rattle.std.specs.Borrow.{Bor}
 use Rattle.meaning.specs.Scalars.{Order}
 use Rattle.meaning.specs.Reading.{Holds, sequence, Read, digit, done, read_at}
-use Rattle.reader.specs.declared.Next.{Next}
-use Rattle.reader.specs.declared.Next.TheVariants.{Digit, Done}
 use Rattle.reader.specs.declared.Reader.{Reader}
 use Rattle.reader.specs.declared.Reading.{Reading}
-use Rattle.reader.specs.declared.State.{State}
 use Rattle.reader.specs.States.{digit_at, opened, call, moved, After}
 
 -- what a call gives, as document 01's
-abbrev pub read_of : Next → Read
-read_of (Digit d) = digit d
-read_of Done = done
-
--- a reader's state, and the reader of a state over a scalar
-abbrev pub state_of : Reader → State
-state_of r = record { place = r.place; width = r.width; pending = r.pending; spot = r.spot; floor = r.floor; refusal = r.refusal; order = r.order }
-
-abbrev pub reader_of : Bor (List ℕ) → State → Reader
-reader_of s q = record { scalar = s; place = q.place; width = q.width; pending = q.pending; spot = q.spot; floor = q.floor; refusal = q.refusal; order = q.order }
+abbrev pub read_of : Option ℤ → Read
+read_of (Some d) = digit d
+read_of None = done
 
 -- `new`: the scalar that was lent, and the state before any call
 pub record Made (w : ℕ) (o : Order) (s : Bor (List ℕ)) (r : Reader) : Type 0 where
   pub scalar_is : r.scalar ≡ s
-  pub state_is : After w o s.now 0 (state_of r)
+  pub state_is : After w o s.now 0 r.state
 
 -- `next`: what the call takes from any reader, and that reader after it. One that was made from w and an order and called k times gives its sequence's digit at k, and
 -- has then been called once more
-pub record Called (before after : Reader) (r : Next) : Type 0 where
-  pub next_is : r ≡ (call before.scalar.now (state_of before)).next
-  pub after_is : after ≡ reader_of before.scalar (moved (state_of before) (call before.scalar.now (state_of before)))
-  pub reads : (w : ℕ) (o : Order) (k : ℕ) → After w o before.scalar.now k (state_of before) → read_of r ≡ read_at (sequence before.refusal w o before.scalar.now) k
-  pub counts : (w : ℕ) (o : Order) (k : ℕ) → After w o before.scalar.now k (state_of before) → After w o before.scalar.now (suc k) (state_of after)
+pub record Called (before after : Reader) (r : Option ℤ) : Type 0 where
+  pub next_is : r ≡ (call before.scalar.now before.state).next
+  pub after_is : after ≡ record { scalar = before.scalar; state = moved before.state (call before.scalar.now before.state) }
+  pub reads : (w : ℕ) (o : Order) (k : ℕ) → After w o before.scalar.now k before.state → read_of r ≡ read_at (sequence before.state.refusal w o before.scalar.now) k
+  pub counts : (w : ℕ) (o : Order) (k : ℕ) → After w o before.scalar.now k before.state → After w o before.scalar.now (suc k) after.state
 
 -- the digit so many places under the m to come, in the window that opens there
-abbrev pub Inside : (w N m under : ℕ) → Next → Type 0
-Inside w N m under r = let t = opened w N (m - 1) in r ≡ Digit (digit_at (m - 1 - under) t.pending t.spot)
+abbrev pub Inside : (w N m under : ℕ) → ℤ → Type 0
+Inside w N m under r = let t = opened w N (m - 1) in r ≡ digit_at (m - 1 - under) t.pending t.spot
 
 -- `read_at`: the number that a reader of w and s, in an order, holds, and what its call after k others gives
 pub record Answered (w : ℕ) (o : Order) (s : List ℕ) (k : ℕ) (r : Reading) : Type 0 where

@@ -1,6 +1,6 @@
 -- A reader's state: how it starts, what a call takes from it, and what it is after so many calls.
 -- Assumes nothing.
-use Rattle.std.specs.Prelude.{◌≡◌, Bool, cond, ◌&&◌, List, ℕ, zero, suc, ◌+◌, ◌-◌, eqb, leb, ltb, ℤ, pos}
+use Rattle.std.specs.Prelude.{◌≡◌, Bool, cond, ◌&&◌, List, ℕ, zero, suc, ◌+◌, ◌-◌, eqb, leb, ltb, ℤ, pos, Some, None}
 use Rattle.meaning.specs.Scalars.{Order, number, code_of, order_of, bit_count, bit, below}
 use Rattle.meaning.specs.Digits.{least_width, most_width, most_places}
 use Rattle.meaning.specs.Windows.{odd_part}
@@ -9,7 +9,6 @@ use Rattle.meaning.specs.Refusals.{granted}
 use Rattle.meaning.specs.Reading.{Holds}
 use Rattle.reader.specs.declared.State.{State}
 use Rattle.reader.specs.declared.Taken.{Taken}
-use Rattle.reader.specs.declared.Next.TheVariants.{Digit, Done}
 
 -- ---- the start
 -- m places to come, and no window open; b is the order's byte
@@ -27,7 +26,7 @@ digit_at i d p = cond (eqb i p) d (pos 0)
 
 -- place i is passed, in a window down to place f
 abbrev pub passed : (i : ℕ) → ℤ → (p f : ℕ) → Taken
-passed i d p f = record { next = Digit (digit_at i d p); place = i; pending = d; spot = p; floor = f }
+passed i d p f = record { next = Some (digit_at i d p); place = i; pending = d; spot = p; floor = f }
 
 -- the same where no window is open: none opens where bit i is the bit under it
 unfoldable pub opened : (w N i : ℕ) → Taken
@@ -43,7 +42,7 @@ openable m w = ltb 0 m && leb m most_places && leb least_width w && leb w most_w
 
 -- nothing is given, and no place is to come
 abbrev pub ended : ℤ → (p f : ℕ) → Taken
-ended d p f = record { next = Done; place = 0; pending = d; spot = p; floor = f }
+ended d p f = record { next = None; place = 0; pending = d; spot = p; floor = f }
 
 -- with m places to come and no window open: where one can open; else done
 unfoldable pub fresh : Order → List ℕ → (m w : ℕ) → ℤ → (p f : ℕ) → Taken

@@ -1,5 +1,5 @@
 -- A string has a form by the form's number, in the set that was chosen. Assumes nothing.
-use mathlib.Core.Path.{◌≡◌}
+use mathlib.Core.Path.{◌≡◌, subst}
 use mathlib.Core.Logic.{◌≢◌}
 use mathlib.Core.List.{List}
 use Prim.Native.Nat.{ℕ, ◌+◌, ◌^◌, ◌<◌, ◌≤◌}
@@ -15,9 +15,9 @@ use Rattle.forms.specs.Fractional.{fractional_from}
 use Rattle.forms.specs.Closest.{closest_of}
 use Rattle.forms.proofs.Made.{fractional_is}
 use Rattle.forms.proofs.Ties.{closest_is}
-use Rattle.width.specs.declared.Width.{Width}
+use Rattle.descending.specs.declared.Turn.{Turn}
+use Rattle.descending.specs.declared.Turn.TheVariants.{Never, AtOne, AtZero}
 use Rattle.descending.specs.Sweeps.{Turned}
-use Rattle.recoder.specs.Judged.{Allowed, Chosen}
 
 module _ (f w m N n : ℕ) (ds : List ℤ) where
   pub is_mof : f ≡ 1 → ds ≡ mof N n → FormIn f w m N n ds
@@ -42,18 +42,10 @@ module _ (f w m N n : ℕ) (ds : List ℤ) where
     is_smaller e d = rw (e, d) (closest_is smaller w N n set.wide small)
 
     -- by the leading bit at which a tie turns
-    pub is_turned : (b : ℕ) → f ≢ 1 → f ≢ 2 → 1 ≤ f → f ≤ most_form → (f ≡ 3 → b ≡ 2) → (f ≡ 4 → b ≡ 1) → (f ≡ 5 → b ≡ 0) → Turned b w N n ds → FormIn f w m N n ds
-    is_turned b one other least most third fourth fifth t = go (ℕ_discrete f 3) (ℕ_discrete f 4)
+    pub is_turned : (t : Turn) → f ≢ 1 → f ≢ 2 → 1 ≤ f → f ≤ most_form → (f ≡ 3 → t ≡ Never) → (f ≡ 4 → t ≡ AtOne) → (f ≡ 5 → t ≡ AtZero) → Turned t w N n ds → FormIn f w m N n ds
+    is_turned t one other least most third fourth fifth d = go (ℕ_discrete f 3) (ℕ_discrete f 4)
       where
         go : Dec (f ≡ 3) → Dec (f ≡ 4) → FormIn f w m N n ds
-        go (yes e) _ = is_wmof e (t.never (third e))
-        go (no o) (yes e) = is_larger e (t.at_one (fourth e))
-        go (no o) (no k) = let e : f ≡ 5 = omega arith in is_smaller e (t.at_zero (fifth e))
-
--- ---- the set that a call goes on in is the one that it was asked for
-module _ {form w m : ℕ} {x : Width} (c : Chosen form w m x) where
-  pub allowed_in : Allowed form x.bits x.largest
-  allowed_in = rw (c.bits_is, c.largest_is) c.allowed
-
-  pub formed_in : (N n : ℕ) (ds : List ℤ) → FormIn form x.bits x.largest N n ds → FormIn form w m N n ds
-  formed_in N n ds f = rw (c.bits_is, c.largest_is) at f
+        go (yes e) _ = is_wmof e (subst (λ u. Turned u w N n ds) (third e) d)
+        go (no o) (yes e) = is_larger e (subst (λ u. Turned u w N n ds) (fourth e) d)
+        go (no o) (no k) = let e : f ≡ 5 = omega arith in is_smaller e (subst (λ u. Turned u w N n ds) (fifth e) d)

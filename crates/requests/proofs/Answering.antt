@@ -23,7 +23,7 @@ use Rattle.forms.proofs.Refusals.{clear}
 use Rattle.forms.proofs.Strings.{weight_le}
 use Rattle.layout.specs.Wholes.{line_length}
 use Rattle.requests.specs.Writing.{Wrote}
-use Rattle.requests.specs.Answered.{most_answer, Lent, Kept, Worked, Filled, Answered}
+use Rattle.requests.specs.Answered.{most_answer, Lent, Worked, Filled}
 use Rattle.hexadecimal.proofs.Characters.{bytes_count}
 use Rattle.laws.proofs.Choices.{not_below}
 use Rattle.laws.proofs.Runs.{sets_front}
@@ -65,12 +65,7 @@ line_first line frame places words r p hp hw f = inr (T_not (malformed line) fra
     go (inr (n1, inr (n2, inr (n3, inr (n4, inr (n5, d)))))) = inr (n1, inr (n2, inr (n3, inr ((λ h. omega arith), inr ((λ h. omega arith), (d.0, refl))))))
 
 -- ---- the answer's length
--- a refusal's line fits where every answer does
-pub answer_least : (v : Version) → 3 ≤ most_answer v
-answer_least version1 = omega arith
-answer_least version2 = omega arith
-
--- so does a string's, with its line feed
+-- a string's line fits where every answer does, with its line feed
 pub answer_most : (v : Version) (ds : List ℤ) → length ds ≤ most_places → line_length v ds < most_answer v
 answer_most version1 ds h = omega arith
 answer_most version2 ds h = omega (arith, weight_le ds)
@@ -121,50 +116,26 @@ module _ (form w : ℕ) {o : Order} {s : List ℕ} {digits₀ digits : List ℤ}
       ap (take (bit_count s + 1)) A.digits_are ∙ take_at A.string (drop (bit_count s + 1) digits₀) (bit_count s + 1) n
 
 -- ---- the call
-module _ (v : Version) (line : List ℕ) (bytes₀ bytes : List ℕ) (digits₀ digits : List ℤ) (marks₀ marks out₀ out : List ℕ) (r : ℕ) where
-  pub filled_malformed : T (malformed line) → Wrote (written (16 ∷ []) ++ (line_feed ∷ [])) out₀ r out → Kept bytes₀ digits₀ marks₀ bytes digits marks
-      → Filled v line bytes₀ digits₀ marks₀ out₀ r bytes digits marks out
-  filled_malformed t w k =
+module _ (v : Version) (line : List ℕ) (bytes₀ bytes : List ℕ) (digits₀ digits : List ℤ) (marks₀ marks out₀ out : List ℕ) (r : ℕ)
+    (frame : T (not (malformed line))) (lent : Lent v bytes₀ digits₀ marks₀ out₀) {a : Tally} (W : Worked line bytes₀ digits₀ marks₀ bytes digits marks a) where
+  rules : First (line_rules line) a.refusal 0
+  rules = line_first line frame (length digits₀) (length marks₀) a.refusal a.place lent.digits_fit lent.marks_fit W.recoded.first
+
+  filled : {text : List ℕ} → Wrote text out₀ r out → Answer v line (take r out) → Filled v line bytes₀ digits₀ marks₀ out₀ r bytes digits marks out
+  filled w x =
       record {
         within = wrote_within w;
-        answer = answer_refused v line out₀ out r 16 (λ e. omega arith) (inl (refl, (t, refl))) w;
+        answer = x;
         rest = wrote_rest w;
-        strange = λ _. k;
-        frame = λ f. absurd (T_not (malformed line) f t);
+        strange = λ t. absurd (T_not (malformed line) frame t);
+        frame = λ _. (a, W);
       }
 
-  module _ (frame : T (not (malformed line))) (lent : Lent v bytes₀ digits₀ marks₀ out₀) {a : Tally} (W : Worked line bytes₀ digits₀ marks₀ bytes digits marks a) where
-    rules : First (line_rules line) a.refusal 0
-    rules = line_first line frame (length digits₀) (length marks₀) a.refusal a.place lent.digits_fit lent.marks_fit W.recoded.first
+  pub filled_refused : a.refusal ≢ 0 → Wrote (written (a.refusal ∷ []) ++ (line_feed ∷ [])) out₀ r out → Filled v line bytes₀ digits₀ marks₀ out₀ r bytes digits marks out
+  filled_refused h w = filled w (answer_refused v line out₀ out r a.refusal h rules w)
 
-    filled : {text : List ℕ} → Wrote text out₀ r out → Answer v line (take r out) → Filled v line bytes₀ digits₀ marks₀ out₀ r bytes digits marks out
-    filled w x =
-        record {
-          within = wrote_within w;
-          answer = x;
-          rest = wrote_rest w;
-          strange = λ t. absurd (T_not (malformed line) frame t);
-          frame = λ _. (a, W);
-        }
-
-    pub filled_refused : a.refusal ≢ 0 → Wrote (written (a.refusal ∷ []) ++ (line_feed ∷ [])) out₀ r out → Filled v line bytes₀ digits₀ marks₀ out₀ r bytes digits marks out
-    filled_refused h w = filled w (answer_refused v line out₀ out r a.refusal h rules w)
-
-    pub filled_accepted : (none : a.refusal ≡ 0) → Wrote (line_of v (W.recoded.accepted none).string ++ (line_feed ∷ [])) out₀ r out
-        → Filled v line bytes₀ digits₀ marks₀ out₀ r bytes digits marks out
-    filled_accepted none w =
-        let A = W.recoded.accepted none in
-        filled w (answer_accepted v line out₀ out r A.string (subst (λ x. First (line_rules line) x 0) none rules) A.formed w)
-
--- enough is lent
-pub answered : {v : Version} {line bytes₀ bytes marks₀ marks out₀ out : List ℕ} {digits₀ digits : List ℤ} {r : ℕ} → Lent v bytes₀ digits₀ marks₀ out₀
-    → Filled v line bytes₀ digits₀ marks₀ out₀ r bytes digits marks out → Answered v line bytes₀ digits₀ marks₀ out₀ r bytes digits marks out
-answered l f = record { enough = λ _. f; short = λ n. absurd (n l) }
-
--- too little is lent
-pub untouched : {v : Version} {line bytes₀ marks₀ out₀ : List ℕ} {digits₀ : List ℤ} → (Lent v bytes₀ digits₀ marks₀ out₀ → ⊥) → Answered v line bytes₀ digits₀ marks₀ out₀ 0 bytes₀ digits₀ marks₀ out₀
-untouched n =
-    record {
-      enough = λ e. absurd (n e);
-      short = λ _. record { none = refl; out_is = refl; kept = record { bytes_are = refl; digits_are = refl; marks_are = refl } };
-    }
+  pub filled_accepted : (none : a.refusal ≡ 0) → Wrote (line_of v (W.recoded.accepted none).string ++ (line_feed ∷ [])) out₀ r out
+      → Filled v line bytes₀ digits₀ marks₀ out₀ r bytes digits marks out
+  filled_accepted none w =
+      let A = W.recoded.accepted none in
+      filled w (answer_accepted v line out₀ out r A.string (subst (λ x. First (line_rules line) x 0) none rules) A.formed w)

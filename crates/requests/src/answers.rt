@@ -5,11 +5,13 @@ ghost use Rattle.meaning.specs.Lines.{line_feed};
 ghost use Rattle.meaning.specs.Hexadecimal.{written};
 ghost use Rattle.meaning.specs.Frames.{line_of};
 ghost use Rattle.layout.specs.Wholes.{line_length};
+ghost use Rattle.refusals.specs.Coded.{coded};
 ghost use Rattle.frames.specs.Told.{version_of};
 ghost use Rattle.requests.specs.Writing.{Wrote};
 ghost use Rattle.requests.specs.Answered.{most_answer};
 
 use frames::Version;
+use refusals::Reason;
 
 // The longest answer: that of a string of the most places, none of them 0, with its line feed.
 pub fn most(version: Version) -> usize
@@ -34,11 +36,11 @@ pub fn accepted(version: Version, weight: u16, top: u16, digits: &[i8], out: &mu
 }
 
 // The line of a refusal, and how long it is.
-pub fn refused(number: u8, out: &mut [u8]) -> usize
+pub fn refused(reason: Reason, out: &mut [u8]) -> usize
     requires { 3 ≤ length out.old }
-    ensures { Wrote (written (number ∷ []) ++ (line_feed ∷ [])) out.old result out.new }
+    ensures { Wrote (written (coded reason ∷ []) ++ (line_feed ∷ [])) out.old result out.new }
 {
-    hexadecimal::put(number, 0, out);
+    hexadecimal::put(reason.into(), 0, out);
     out[2] = b'\n';
     3
 }

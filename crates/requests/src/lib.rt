@@ -5,13 +5,14 @@ ghost use Rattle.std.specs.Prelude.{◌≡◌, not, T};
 ghost use Rattle.meaning.specs.Scalars.{highest_first};
 ghost use Rattle.meaning.specs.Whole.{RecodeWhole};
 ghost use Rattle.meaning.specs.Requests.{malformed};
-ghost use Rattle.digits.specs.Tallies.{told};
+ghost use Rattle.digits.specs.Tallies.{answered};
 ghost use Rattle.frames.specs.Told.{version_of};
 ghost use Rattle.requests.specs.Answered.{Lent, Filled, Answered};
 
-use digits::Tally;
+use digits::Accepted;
 use frames::Version;
 use recoder::MARK_WORDS;
+use refusals::{Reason, Refusal};
 use scalar::Order;
 use width::{DigitSet, Width};
 
@@ -25,9 +26,6 @@ pub const MOST_BYTES: usize = MOST_CHARACTERS / 2;
 // The longest answer, its line feed counted.
 pub use answers::most as most_answer;
 
-// The refusal of a malformed line.
-const MALFORMED: u8 = 16;
-
 // Form, width and scalar length stand before the scalar's bytes.
 const HEAD: usize = 3;
 
@@ -38,25 +36,25 @@ const STATED_AT: usize = 2 * (HEAD - 1);
 fn malformed(line: &[u8]) -> bool
     ensures { result ≡ malformed line.now }
 {
-    if line.len() < 2 * HEAD {
+    if line.len() < 2 * HEAD || MOST_CHARACTERS < line.len() || line.len() % 2 == 1 {
         return true;
     }
-    if MOST_CHARACTERS < line.len() {
+    if !hexadecimal::all_hex(line) {
         return true;
     }
-    if line.len() % 2 == 1 {
-        return true;
-    }
-    if hexadecimal::all_hex(line) {
-        let stated = hexadecimal::byte(line[STATED_AT], line[STATED_AT + 1]);
-        return line.len() / 2 != HEAD + stated as usize;
-    }
-    true
+    let stated = hexadecimal::byte(line[STATED_AT], line[STATED_AT + 1]);
+    line.len() / 2 != HEAD + usize::from(stated)
 }
 
 // A frame's scalar: frames have whole widths, and the highest byte first.
-fn recode(form: u8, width: u8, s: &[u8], digits: &mut [i8], marks: &mut [u64]) -> Tally
-    ensures { RecodeWhole form width highest_first s.now digits.old marks.old (told result) digits.new marks.new }
+fn recode(
+    form: u8,
+    width: u8,
+    s: &[u8],
+    digits: &mut [i8],
+    marks: &mut [u64],
+) -> Result<Accepted, Refusal>
+    ensures { RecodeWhole form width highest_first s.now digits.old marks.old (answered result) digits.new marks.new }
 {
     recoder::recode(
         form,
@@ -83,12 +81,19 @@ fn frame(
 {
     hexadecimal::read(line, bytes);
     let count = line.len() / 2;
-    let tally = recode(bytes[0], bytes[1], &bytes[HEAD..count], digits, marks);
-    if tally.refusal != 0 {
-        return answers::refused(tally.refusal, out);
+    match recode(bytes[0], bytes[1], &bytes[HEAD..count], digits, marks) {
+        Err(refusal) => answers::refused(refusal.reason, out),
+        Ok(accepted) => {
+            let places = 8 * (count - HEAD) + 1;
+            answers::accepted(
+                version,
+                accepted.weight,
+                accepted.top,
+                &digits[..places],
+                out,
+            )
+        }
     }
-    let places = 8 * (count - HEAD) + 1;
-    answers::accepted(version, tally.weight, tally.top, &digits[..places], out)
 }
 
 // The answer to any line, written to the front of `out`, and how long it is. The other memory is worked in. Where too little is lent, nothing is written.
@@ -102,20 +107,15 @@ pub fn answer(
 ) -> usize
     ensures { Answered (version_of version) line.now bytes.old digits.old marks.old out.old result bytes.new digits.new marks.new out.new }
 {
-    if bytes.len() < MOST_BYTES {
-        return 0;
-    }
-    if digits.len() < Width::MOST_PLACES {
-        return 0;
-    }
-    if marks.len() < MARK_WORDS {
-        return 0;
-    }
-    if out.len() < answers::most(version) {
+    if bytes.len() < MOST_BYTES
+        || digits.len() < Width::MOST_PLACES
+        || marks.len() < MARK_WORDS
+        || out.len() < answers::most(version)
+    {
         return 0;
     }
     if malformed(line) {
-        return answers::refused(MALFORMED, out);
+        return answers::refused(Reason::Malformed, out);
     }
     frame(version, line, bytes, digits, marks, out)
 }

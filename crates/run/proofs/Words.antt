@@ -4,11 +4,12 @@ use mathlib.Core.Path.{◌≡◌, sym, ap, ◌∙◌, subst}
 use mathlib.Core.Logic.{◌≢◌, ⊎_elim}
 use mathlib.Core.Bool.{Bool, false, not}
 use Prim.Native.Nat.{ℕ, ◌<◌}
+use native.Mathlib.Decide.{ℕ_discrete}
 use native.Mathlib.Omega.{arith}
 use borrow.Author.Tests.{ltb-true, ltb-false, eqb-true, eqb-false, not-true, not-false}
 use lib.Dec.{ltb, eqb}
 use Rattle.laws.specs.Deciding.{Decides}
-use Rattle.laws.proofs.Choices.{denies}
+use Rattle.laws.proofs.Choices.{denies, not_below}
 use Rattle.meaning.specs.Words as Words
 use Rattle.meaning.specs.Words.{code_of, entry_of, double, load, add, bad, step_of}
 use Rattle.meaning.specs.Walks.{Good}
@@ -82,3 +83,18 @@ module _ (count i x : ℕ) where
   -- a bad step's word is bad
   pub judged_bad : Says bad (code_of x) (entry_of x) → Decides false (Good count i x)
   judged_bad s = denies (λ g. ⊎_elim (λ o. omega (arith, g.code)) (λ o. omega (arith, g.double o.0, o.1)) s)
+
+  -- what is not bad is good
+  pub good_of : ((Good count i x → ⊥) → ⊥) → Good count i x
+  good_of n =
+      record {
+        code = not_below (λ h. n (λ g. omega (arith, g.code)));
+        entry = not_below (λ h. n (λ g. omega (arith, g.entry)));
+        double = λ z. zero (ℕ_discrete (entry_of x) 0) z;
+        first = λ z. (not_below (λ h. n (λ g. omega (arith, (g.first z).0))), not_below (λ h. n (λ g. omega (arith, (g.first z).1))));
+        later = λ m l. n (λ g. g.later m l);
+      }
+    where
+      zero : Dec (entry_of x ≡ 0) → code_of x ≡ 0 → entry_of x ≡ 0
+      zero (yes e) z = e
+      zero (no o) z = absurd (n (λ g. o (g.double z)))

@@ -4,25 +4,26 @@
 ghost use Rattle.std.specs.Prelude.{◌≡◌, ◌++◌, ℕ, ◌+◌, ◌%◌, ◌≤◌, ◌<◌, ltb, length, get_or, drop};
 ghost use Rattle.laws.specs.Deciding.{Decides};
 ghost use Rattle.meaning.specs.Words.{most_words};
-ghost use Rattle.meaning.specs.Walks.{Good};
+ghost use Rattle.meaning.specs.Walks.{Carrier, Table, Good};
 ghost use Rattle.meaning.specs.Multiples.{cost_of};
-ghost use Rattle.meaning.specs.Running.{multiples_of};
+ghost use Rattle.meaning.specs.Running.{multiples_of, step_rules};
 ghost use Rattle.walk.specs.Steps.{Stepped, Reached};
 ghost use Rattle.walk.specs.Residues.{residues};
 ghost use Rattle.tape.specs.Steps.{side};
-ghost use Rattle.run.specs.Outcomes.{refusal, Promise};
+ghost use Rattle.run.specs.Outcomes.{Judged, Promise};
 ghost use Rattle.run.specs.Words.{Sifted};
-ghost use Rattle.run.specs.Walks.{entry_in, table_of, Held, Steady};
+ghost use Rattle.run.specs.Walks.{table_of, HasResidue, Held, Steady};
 
+use refusals::{Reason, Refusal};
 use tape::{Move, Sign, Step};
-use width::{DigitSet, Known, Width};
+use width::{DigitSet, Width};
 
 // ---- judging
 // Whether there is the entry of a move: a run says how many it has.
 fn held(count: usize, step: Move) -> bool
     ensures { result ≡ ltb step.entry count }
 {
-    (step.entry as usize) < count
+    usize::from(step.entry) < count
 }
 
 // Whether a word is good at its index: the first is a load, and no other is.
@@ -38,19 +39,15 @@ pub fn good(count: usize, index: usize, word: u16) -> bool
     }
 }
 
-// The index of the first bad word, or the count of words.
-pub fn first_bad(count: usize, words: &[u16]) -> usize
+// The index of the first bad word.
+pub fn first_bad(count: usize, words: &[u16]) -> Option<usize>
     requires { 0 < count }
     ensures { Sifted (Good count) words.now result }
 {
-    let mut i = 0;
-    while i < words.len() {
-        if !good(count, i, words[i]) {
-            return i;
-        }
-        i += 1;
-    }
-    i
+    words
+        .iter()
+        .enumerate()
+        .position(|(i, word)| !good(count, i, *word))
 }
 
 // ---- residues
@@ -71,11 +68,9 @@ pub fn store(count: usize, modulus: u32, base: u32, multiples: &mut [u32])
 {
     let mut multiple = base % modulus;
     let twice = plus(multiple, multiple, modulus);
-    let mut e = 0;
-    while e < count {
-        multiples[e] = multiple;
+    for stored in &mut multiples[..count] {
+        *stored = multiple;
         multiple = plus(multiple, twice, modulus);
-        e += 1;
     }
 }
 
@@ -112,39 +107,96 @@ pub struct State {
     pub additions: u16,
 }
 
-// A residue plus or minus the multiple of a move.
-fn moved(x: u32, step: Move, modulus: u32, multiples: &[u32]) -> u32
-    requires { (x < modulus) × (step.entry < length multiples.now) × (entry_in multiples.now step.entry < modulus) }
-    ensures { result ≡ (x + table_of modulus multiples.now (side step.sign) step.entry) % modulus }
-{
-    let entry = step.entry as usize;
-    let multiple = multiples[entry];
-    let sign = step.sign;
-    match sign {
-        Sign::Plus => plus(x, multiple, modulus),
-        Sign::Minus => plus(x, modulus - multiple, modulus),
+// A chip: its values make a carrier, and a table has the entries that its moves take.
+pub trait Chip {
+    ghost carrier: { Self → Carrier ℕ };
+
+    ghost table: { Self → Table ℕ };
+
+    // The numbers that are its values, and the entries that are there.
+    ghost Value: { Self → ℕ → Type 0 };
+
+    ghost Entry: { Self → ℕ → Type 0 };
+
+    // What no words leave.
+    fn start(&self) -> u32
+        ensures none { result ≡ (carrier self.now).none }
+        ensures value { Value self.now result };
+
+    fn double(&self, value: u32) -> u32
+        requires { Value self.now value }
+        ensures doubled { result ≡ (carrier self.now).dbl value }
+        ensures value { Value self.now result };
+
+    fn load(&self, step: Move) -> u32
+        requires { Entry self.now step.entry }
+        ensures loaded { result ≡ table self.now (side step.sign) step.entry }
+        ensures value { Value self.now result };
+
+    fn add(&self, value: u32, step: Move) -> u32
+        requires { Value self.now value × Entry self.now step.entry }
+        ensures added { result ≡ (carrier self.now).add value (table self.now (side step.sign) step.entry) }
+        ensures value { Value self.now result };
+}
+
+// Residues, over lent multiples: a subtraction adds what its multiple lacks of the modulus.
+#[derive(Clone, Copy)]
+pub struct Residues<'a> {
+    pub modulus: u32,
+    pub multiples: &'a [u32],
+    pub ghost some: { 0 < modulus },
+}
+
+impl Chip for Residues<'_> {
+    ghost carrier = { λ c. residues c.modulus };
+
+    ghost table = { λ c. table_of c.modulus c.multiples.now };
+
+    ghost Value = { λ c x. x < c.modulus };
+
+    ghost Entry = { λ c e. HasResidue c.modulus c.multiples.now e };
+
+    fn start(&self) -> u32 {
+        0
+    }
+
+    fn double(&self, value: u32) -> u32 {
+        plus(value, value, self.modulus)
+    }
+
+    fn load(&self, step: Move) -> u32 {
+        self.add(0, step)
+    }
+
+    fn add(&self, value: u32, step: Move) -> u32 {
+        let multiple = self.multiples[usize::from(step.entry)];
+        match step.sign {
+            Sign::Plus => plus(value, multiple, self.modulus),
+            Sign::Minus => plus(value, self.modulus - multiple, self.modulus),
+        }
     }
 }
 
 // One word's step.
-fn step(state: State, word: u16, modulus: u32, multiples: &[u32]) -> State
-    requires steady { Steady modulus state }
-    requires held { Held modulus multiples.now word }
-    ensures { Stepped (residues modulus) (table_of modulus multiples.now) word state.value state.doublings state.additions result.value result.doublings result.additions }
+fn step<C: Chip>(chip: &C, state: State, word: u16) -> State
+    requires steady { Steady (C.Value chip.now) state }
+    requires held { Held (C.Entry chip.now) word }
+    ensures stepped { Stepped (C.carrier chip.now) (C.table chip.now) word state.value state.doublings state.additions result.value result.doublings result.additions }
+    ensures value { C.Value chip.now result.value }
 {
     match tape::decode(word) {
         Step::Double => State {
-            value: plus(state.value, state.value, modulus),
+            value: chip.double(state.value),
             doublings: state.doublings + 1,
             additions: state.additions,
         },
         Step::Load(m) => State {
-            value: moved(0, m, modulus, multiples),
+            value: chip.load(m),
             doublings: state.doublings,
             additions: state.additions,
         },
         Step::Add(m) => State {
-            value: moved(state.value, m, modulus, multiples),
+            value: chip.add(state.value, m),
             doublings: state.doublings,
             additions: state.additions + 1,
         },
@@ -153,88 +205,73 @@ fn step(state: State, word: u16, modulus: u32, multiples: &[u32]) -> State
 }
 
 // The state that the words reach.
-pub fn reach(words: &[u16], modulus: u32, multiples: &[u32]) -> State
-    requires modulus_nonzero { (0 < modulus) × (length words.now ≤ most_words) }
-    requires by_index { (i : ℕ) → i < length words.now → Held modulus multiples.now (get_or words.now i 0) }
-    ensures { Reached (residues modulus) (table_of modulus multiples.now) words.now result.value result.doublings result.additions }
+pub fn reach<C: Chip>(chip: &C, words: &[u16]) -> State
+    requires few { length words.now ≤ most_words }
+    requires held { (i : ℕ) → i < length words.now → Held (C.Entry chip.now) (get_or words.now i 0) }
+    ensures { Reached (C.carrier chip.now) (C.table chip.now) words.now result.value result.doublings result.additions }
 {
     let mut state = State {
-        value: 0,
+        value: chip.start(),
         doublings: 0,
         additions: 0,
     };
-    let mut i = 0;
-    while i < words.len() {
-        state = step(state, words[i], modulus, multiples);
-        i += 1;
+    for word in words {
+        state = step(chip, state, *word);
     }
     state
 }
 
 // ---- the call
-#[derive(Clone, Copy)]
-pub struct Refusal {
-    pub number: u8,
-    pub place: u16,
-}
-
-// The residue reached, or why nothing was done.
-#[derive(Clone, Copy)]
-pub enum Outcome {
-    Residue(u32),
-    Refused(Refusal),
-}
-
-// The outcome, the doublings and additions done, and beside them what the multiples cost.
+// What a run comes to: the residue reached, the doublings and additions done, and beside them what the multiples cost.
 #[derive(Clone, Copy)]
 pub struct Ran {
-    pub outcome: Outcome,
+    pub residue: u32,
     pub doublings: u16,
     pub additions: u16,
     pub cost: Cost,
 }
 
-pub fn refused(number: u8, place: u16) -> Ran
-    ensures { result ≡ refusal number place }
+// What the steps ask of a call: a modulus that is not 0, a tape no longer than a string's, room for the entries, and words that are good each at its index.
+pub fn judged(count: usize, tape: &[u16], modulus: u32, room: usize) -> Result<(), Refusal>
+    requires { 0 < count }
+    ensures { Judged (step_rules count tape.now modulus room) result }
 {
-    Ran {
-        outcome: Outcome::Refused(Refusal { number, place }),
-        doublings: 0,
-        additions: 0,
-        cost: Cost {
-            doublings: 0,
-            additions: 0,
-        },
+    if modulus == 0 {
+        return Err(Reason::ZeroModulus.into());
     }
+    if Width::MOST_WORDS < tape.len() {
+        return Err(Reason::LongTape.into());
+    }
+    if room < count {
+        return Err(Reason::FewMultiples.into());
+    }
+    if let Some(place) = first_bad(count, tape) {
+        return Err(Refusal {
+            reason: Reason::BadWord,
+            place: place as u16,
+        });
+    }
+    Ok(())
 }
 
 // The run of a tape: all its words are judged before a multiple is stored.
-pub fn run(set: DigitSet, tape: &[u16], modulus: u32, base: u32, multiples: &mut [u32]) -> Ran
+pub fn run(
+    set: DigitSet,
+    tape: &[u16],
+    modulus: u32,
+    base: u32,
+    multiples: &mut [u32],
+) -> Result<Ran, Refusal>
     ensures { Promise set.width set.largest tape.now modulus base multiples.old result multiples.new }
 {
-    let Known::As(known) = set.known() else {
-        return refused(set.fault(), 0);
-    };
-    if modulus == 0 {
-        return refused(12, 0);
-    }
-    if Width::MOST_WORDS < tape.len() {
-        return refused(13, 0);
-    }
-    let count = known.entries();
-    if multiples.len() < count {
-        return refused(14, 0);
-    }
-    let bad = first_bad(count, tape);
-    if bad < tape.len() {
-        return refused(15, bad as u16);
-    }
+    let count = set.tried()?.entries();
+    judged(count, tape, modulus, multiples.len())?;
     store(count, modulus, base, multiples);
-    let state = reach(tape, modulus, multiples);
-    Ran {
-        outcome: Outcome::Residue(state.value),
+    let state = reach(&Residues { modulus, multiples }, tape);
+    Ok(Ran {
+        residue: state.value,
         doublings: state.doublings,
         additions: state.additions,
         cost: cost_of(count),
-    }
+    })
 }

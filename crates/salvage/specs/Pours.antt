@@ -1,25 +1,23 @@
--- What judging the lines of a piece of the input leaves, and what reading once does. Assumes nothing.
-use Rattle.std.specs.Prelude.{◌≡◌, true, List, ℕ, ◌+◌, ◌≤◌, length, take}
+-- What judging the lines of a block of the input leaves. Assumes nothing.
+use Rattle.std.specs.Prelude.{◌≡◌, List, ℕ, ◌+◌, ◌*◌, ◌≤◌, length}
 use Rattle.cutter.specs.Cuts.{ended, begun, Keeps}
-use Rattle.salvage.specs.declared.Turn.{Turn}
+use Rattle.blocks.specs.Blocks.{block}
+use Rattle.salvage.specs.declared.Salvage.{Salvage}
 
--- the most that is read at once
-abbrev pub block : ℕ
-block = 65536
+-- the most blocks that are read
+abbrev pub turns : ℕ
+turns = 0xFFFFFFFFFFFF
 
 -- a text has come after p: of the line that has not ended in it the first characters are kept, however long its lines were, and its number is known
 pub record Came (p text line : List ℕ) (kept number₀ number : ℕ) : Type 0 where
   pub keeps : Keeps (begun p text) line kept
   pub number_is : number ≡ length (ended p text) + number₀
 
--- unless a write failed, the whole piece has come
-pub record Pours (piece line₀ : List ℕ) (kept₀ number₀ : ℕ) (r : Turn) (line : List ℕ) : Type 0 where
-  pub within : r.kept ≤ length line
-  pub number_within : r.number ≤ number₀ + length piece
-  pub comes : r.goes ≡ true → (p : List ℕ) → Keeps p line₀ kept₀ → Came p piece line r.kept number₀ r.number
+-- the whole block has come
+abbrev pub Pours : Salvage → List ℕ → Salvage → Type 0
+Pours s piece t = (p : List ℕ) → Keeps p s.line s.kept → Came p piece t.line t.kept s.number t.number
 
--- unless the input ended or a write failed, what was read has come: it is the front of the buffer
-pub record Takes (line₀ : List ℕ) (kept₀ number₀ : ℕ) (r : Turn) (input line : List ℕ) : Type 0 where
-  pub within : r.kept ≤ length line
-  pub number_within : r.number ≤ number₀ + length input
-  pub comes : r.goes ≡ true → (n : ℕ) × (n ≤ length input) × ((p : List ℕ) → Keeps p line₀ kept₀ → Came p (take n input) line r.kept number₀ r.number)
+-- when n blocks have been read, there were no more lines in them than characters
+pub record Ready (n : ℕ) (s : Salvage) : Type 0 where
+  pub kept_within : s.kept ≤ length s.line
+  pub number_within : s.number ≤ 1 + block * n

@@ -1,14 +1,10 @@
--- Answers that hold an enum, told by plain numbers.
+-- What a reader gives, told by plain numbers.
 -- Assumes nothing.
 use mathlib.Core.Path.{◌≡◌, subst, sym, ap, ap₂, ◌∙◌}
 use mathlib.Core.List.{List}
 use Prim.Native.Nat.{ℕ, suc}
 use lib.IntN.{ℤ}
 use Rattle.meaning.specs.Scalars.{Order}
-use Rattle.meaning.specs.Running as Running
-use Rattle.run.specs.declared.Outcome.{Outcome}
-use Rattle.run.specs.declared.Ran.{Ran}
-use Rattle.run.specs.Outcomes.{refusal_of, place_of, residue_of, costed, answer}
 use Rattle.reader.specs.declared.Reading.{Reading}
 use Rattle.reader.specs.declared.State.{State}
 use Rattle.reader.specs.declared.Taken.{Taken}
@@ -17,10 +13,6 @@ use Rattle.reader.specs.Calls.{read_of, Answered}
 use Rattle.reader.proofs.Calls.{after_call, after_reads}
 use Rattle.sarvundole.specs.Reads.{given, digit_of, Tells, Reads}
 use Rattle.sarvundole.specs.Steps.{Steps}
-
--- an answer of a run whose outcome is o
-pub told : {r : Ran} {o : Outcome} → r.outcome ≡ o → ◌≡◌ {A = Running.Ran} (record { refusal = refusal_of o; place = place_of o; residue = residue_of o; doublings = r.doublings; additions = r.additions; cost = costed r.cost }) (answer r)
-told {r} q = sym (ap (λ o. record { refusal = refusal_of o; place = place_of o; residue = residue_of o; doublings = r.doublings; additions = r.additions; cost = costed r.cost }) q)
 
 -- a reading whose call is told by g and d
 pub read : {w : ℕ} {o : Order} {s : List ℕ} {k : ℕ} {r : Reading} {g : ℕ} {d : ℤ} → Answered w o s k r → Tells r.next g d → Reads w o s k r.refusal g d

@@ -1,9 +1,8 @@
 -- What a call of the reader gives, in plain numbers.
 -- Assumes nothing.
-use Rattle.std.specs.Prelude.{◌≡◌, List, ℕ, ℤ, pos}
+use Rattle.std.specs.Prelude.{◌≡◌, List, ℕ, ℤ, pos, Option}
 use Rattle.meaning.specs.Scalars.{Order}
 use Rattle.meaning.specs.Reading.{Holds, sequence, Read, digit, done, read_at}
-use Rattle.reader.specs.declared.Next.{Next}
 use Rattle.reader.specs.Calls.{read_of}
 
 -- 1 where there is a digit, and 0 where the reader is done
@@ -17,7 +16,7 @@ digit_of (digit d) = d
 digit_of done = pos 0
 
 -- what the code's call gives is told by g and d
-pub record Tells (x : Next) (g : ℕ) (d : ℤ) : Type 0 where
+pub record Tells (x : Option ℤ) (g : ℕ) (d : ℤ) : Type 0 where
   pub given_is : g ≡ given (read_of x)
   pub digit_is : d ≡ digit_of (read_of x)
 

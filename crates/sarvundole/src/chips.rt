@@ -3,7 +3,6 @@ ghost use Rattle.meaning.specs.SecondChip.{Translate, RunSecond};
 ghost use Rattle.second.specs.Promises.{translated};
 ghost use Rattle.sarvundole.specs.Runs.{ran};
 
-use crate::exported;
 use crate::exported::Ran;
 use second::Translated;
 use width::DigitSet;
@@ -11,7 +10,7 @@ use width::DigitSet;
 pub fn sarvundole_translate(set: DigitSet, tape: &[u16], words: &mut [u16]) -> Translated
     ensures { Translate set.width set.largest tape.now words.old (translated result) words.new }
 {
-    second::translate(set, tape, words)
+    second::translate(set, tape, words).into()
 }
 
 pub fn sarvundole_run_second(
@@ -23,5 +22,5 @@ pub fn sarvundole_run_second(
 ) -> Ran
     ensures { RunSecond set.width set.largest tape.now modulus base multiples.old (ran result) multiples.new }
 {
-    exported::reported(second::run_second(set, tape, modulus, base, multiples))
+    second::run_second(set, tape, modulus, base, multiples).into()
 }

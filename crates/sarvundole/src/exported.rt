@@ -12,13 +12,12 @@ ghost use Rattle.meaning.specs.Lighter.{Pick};
 ghost use Rattle.meaning.specs.Frames.{Write, Read};
 ghost use Rattle.digits.specs.Tallies.{told};
 ghost use Rattle.tape.specs.Answers.{taped};
-ghost use Rattle.run.specs.Outcomes.{answer};
-ghost use Rattle.search.specs.Answers.{searched};
-ghost use Rattle.choice.specs.Answers.{chosen};
+ghost use Rattle.search.specs.Answers.{told as searched};
+ghost use Rattle.choice.specs.Answers.{told as chosen};
 ghost use Rattle.lighter.specs.Answers.{picked};
 ghost use Rattle.frames.specs.Told.{version_of, framed, parsed};
 ghost use Rattle.reader.specs.States.{After};
-ghost use Rattle.sarvundole.specs.Runs.{ran};
+ghost use Rattle.sarvundole.specs.Runs.{ran, Answers};
 ghost use Rattle.sarvundole.specs.Reads.{Tells, Reads};
 ghost use Rattle.sarvundole.specs.Kept.{state_of, Small};
 ghost use Rattle.sarvundole.specs.Steps.{Steps};
@@ -28,8 +27,9 @@ use choice::Chosen;
 use digits::Tally;
 use frames::{Framed, Parsed, Version};
 use lighter::Picked;
-use reader::{Next, State};
-use run::{Cost, Outcome};
+use reader::State;
+use refusals::Refusal;
+use run::Cost;
 use search::Searched;
 use tape::Taped;
 use width::DigitSet;
@@ -87,7 +87,7 @@ pub fn sarvundole_recode(
 ) -> Tally
     ensures { Recode form set.width set.largest (order_of order) scalar.now digits.old marks.old (told result) digits.new marks.new }
 {
-    recoder::recode(form, set, scalar::order_of(order), scalar, digits, marks)
+    recoder::recode(form, set, order.into(), scalar, digits, marks).into()
 }
 
 pub fn sarvundole_recode_below(
@@ -101,58 +101,52 @@ pub fn sarvundole_recode_below(
 ) -> Tally
     ensures { RecodeBelow form set.width set.largest (order_of order) scalar.now group.now digits.old marks.old (told result) digits.new marks.new }
 {
-    recoder::recode_below(
-        form,
-        set,
-        scalar::order_of(order),
-        scalar,
-        group,
-        digits,
-        marks,
-    )
+    recoder::recode_below(form, set, order.into(), scalar, group, digits, marks).into()
 }
 
 pub fn sarvundole_check(set: DigitSet, order: u8, scalar: &[u8], digits: &[i8]) -> Tally
     ensures { Check (check_rules set.width set.largest (order_of order) scalar.now digits.now) digits.now (told result) }
 {
-    judge::check(set, scalar::order_of(order), scalar, digits)
+    judge::check(set, order.into(), scalar, digits).into()
 }
 
 pub fn sarvundole_check_nonadjacent(set: DigitSet, order: u8, scalar: &[u8], digits: &[i8]) -> Tally
     ensures { Check (nonadjacent_rules set.width set.largest (order_of order) scalar.now digits.now) digits.now (told result) }
 {
-    judge::check_nonadjacent(set, scalar::order_of(order), scalar, digits)
+    judge::check_nonadjacent(set, order.into(), scalar, digits).into()
 }
 
 pub fn sarvundole_tape(set: DigitSet, digits: &[i8], words: &mut [u16]) -> Taped
     ensures { Tape set.width set.largest digits.now words.old (taped result) words.new }
 {
-    tape::tape(set, digits, words)
+    tape::tape(set, digits, words).into()
 }
 
-// What a run answers, in plain fields.
-pub fn reported(made: run::Ran) -> Ran
-    ensures { ran result ≡ answer made }
-{
-    let outcome = made.outcome;
-    let cost = made.cost;
-    match outcome {
-        Outcome::Residue(residue) => Ran {
-            refusal: 0,
-            place: 0,
-            residue,
-            doublings: made.doublings,
-            additions: made.additions,
-            cost,
-        },
-        Outcome::Refused(refused) => Ran {
-            refusal: refused.number,
-            place: refused.place,
-            residue: 0,
-            doublings: made.doublings,
-            additions: made.additions,
-            cost,
-        },
+impl From<Result<run::Ran, Refusal>> for Ran {
+    ghost from_gives = { Answers };
+
+    fn from(answer: Result<run::Ran, Refusal>) -> Ran {
+        match answer {
+            Ok(ran) => Ran {
+                refusal: 0,
+                place: 0,
+                residue: ran.residue,
+                doublings: ran.doublings,
+                additions: ran.additions,
+                cost: ran.cost,
+            },
+            Err(refusal) => Ran {
+                refusal: refusal.reason.into(),
+                place: refusal.place,
+                residue: 0,
+                doublings: 0,
+                additions: 0,
+                cost: Cost {
+                    doublings: 0,
+                    additions: 0,
+                },
+            },
+        }
     }
 }
 
@@ -165,7 +159,7 @@ pub fn sarvundole_run(
 ) -> Ran
     ensures { Run set.width set.largest tape.now modulus base multiples.old (ran result) multiples.new }
 {
-    reported(run::run(set, tape, modulus, base, multiples))
+    run::run(set, tape, modulus, base, multiples).into()
 }
 
 pub fn sarvundole_run_powers(
@@ -179,35 +173,25 @@ pub fn sarvundole_run_powers(
 ) -> Ran
     ensures { Powers set.width set.largest tape.now modulus base inverse powers.old inverses.old (ran result) powers.new inverses.new }
 {
-    reported(powers::run_powers(set, tape, modulus, base, inverse, powers, inverses))
+    powers::run_powers(set, tape, modulus, base, inverse, powers, inverses).into()
 }
 
-// What a call of the reader gives, in plain numbers.
-#[derive(Clone, Copy)]
-struct Given {
-    given: u8,
-    digit: i8,
-}
-
-fn plain(next: Next) -> Given
-    ensures { Tells next result.given result.digit }
+// What a call of the reader gives, in plain numbers: 1 and the digit, or 0 and 0.
+fn plain(next: Option<i8>) -> (u8, i8)
+    ensures { Tells next result.0 result.1 }
 {
-    match next {
-        Next::Digit(digit) => Given { given: 1, digit },
-        Next::Done => Given { given: 0, digit: 0 },
-    }
+    next.map_or((0, 0), |digit| (1, digit))
 }
 
 pub fn sarvundole_read_at(width: u8, order: u8, scalar: &[u8], calls: u16) -> Reading
     ensures { Reads width (order_of order) scalar.now calls result.refusal result.given result.digit }
 {
-    let made = reader::read_at(width, scalar::order_of(order), scalar, calls);
-    let next = made.next;
-    let told = plain(next);
+    let read = reader::read_at(width, order.into(), scalar, calls);
+    let (given, digit) = plain(read.next);
     Reading {
-        refusal: made.refusal,
-        given: told.given,
-        digit: told.digit,
+        refusal: read.refusal,
+        given,
+        digit,
     }
 }
 
@@ -216,11 +200,11 @@ fn state(reader: Reader) -> State
     ensures { (result ≡ state_of reader) × Small result }
 {
     State {
-        place: reader.place as usize,
+        place: usize::from(reader.place),
         width: reader.width,
         pending: reader.pending,
-        spot: reader.spot as usize,
-        floor: reader.floor as usize,
+        spot: usize::from(reader.spot),
+        floor: usize::from(reader.floor),
         refusal: reader.refusal,
         order: reader.order,
     }
@@ -245,43 +229,34 @@ fn kept(state: State) -> Reader
 pub fn sarvundole_reader_start(width: u8, order: u8, scalar: &[u8]) -> Reader
     ensures { After width (order_of order) scalar.now 0 (state_of result) }
 {
-    kept(reader::start(width, scalar::order_of(order), scalar))
+    kept(reader::start(width, order.into(), scalar))
 }
 
 pub fn sarvundole_reader_next(scalar: &[u8], reader: Reader) -> Stepped
     ensures { Steps scalar.now (state_of reader) (state_of result.reader) result.given result.digit }
 {
     let before = state(reader);
-    let taken = reader::step(
-        scalar,
-        before.place,
-        before.width,
-        before.pending,
-        before.spot,
-        before.floor,
-        before.order,
-    );
+    let taken = reader::call(scalar, before);
     let after = kept(reader::moved(before, taken));
-    let next = taken.next;
-    let told = plain(next);
+    let (given, digit) = plain(taken.next);
     Stepped {
         reader: after,
-        given: told.given,
-        digit: told.digit,
+        given,
+        digit,
     }
 }
 
 pub fn sarvundole_search(number: u32, width: u8) -> Searched
     ensures { Search number width (searched result) }
 {
-    search::search(number, width)
+    search::search(number, width).into()
 }
 
 // ---- the choice of a width, and the lighter of two strings
 pub fn sarvundole_choose(order: u8, scalar: &[u8], entries: u32) -> Chosen
     ensures { Choose (order_of order) scalar.now entries (chosen result) }
 {
-    choice::choose(scalar::order_of(order), scalar, entries)
+    choice::choose(order.into(), scalar, entries).into()
 }
 
 // C has the part by its string and its count of places.
@@ -294,28 +269,30 @@ pub fn sarvundole_lighter(
 ) -> Picked
     ensures { Pick width (order_of order) scalar.now first.now second.now (picked result) }
 {
-    lighter::pick(width, scalar::order_of(order), scalar, first, second)
+    lighter::pick(width, order.into(), scalar, first, second).into()
 }
 
 // ---- frames
 // The version of a byte: 1 is version 1, and anything else version 2.
+#[tactic(auto, unfolding(crate::specs::Versions::numbered))]
 fn version(number: u8) -> Version
     ensures { version_of result ≡ numbered number }
 {
     if number == 1 {
-        return Version::Plain;
+        Version::Plain
+    } else {
+        Version::Sparse
     }
-    Version::Sparse
 }
 
 pub fn sarvundole_write(number: u8, digits: &[i8], line: &mut [u8]) -> Framed
     ensures { Write (numbered number) digits.now line.old (framed result) line.new }
 {
-    frames::write(version(number), digits, line)
+    frames::write(version(number), digits, line).into()
 }
 
 pub fn sarvundole_read(line: &[u8], digits: &mut [i8]) -> Parsed
     ensures { Read line.now digits.old (parsed result) digits.new }
 {
-    frames::read(line, digits)
+    frames::read(line, digits).into()
 }

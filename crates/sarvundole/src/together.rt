@@ -5,7 +5,6 @@ ghost use Rattle.meaning.specs.JointRunning.{RunJoint};
 ghost use Rattle.joint.specs.Answers.{joined};
 ghost use Rattle.sarvundole.specs.Runs.{ran};
 
-use crate::exported;
 use crate::exported::Ran;
 use joint::Joined;
 
@@ -19,7 +18,7 @@ pub fn sarvundole_joint(
 ) -> Joined
     ensures { Joint (order_of order) a.now b.now (record { first = first.old; second = second.old; words = words.old }) (joined result) (record { first = first.new; second = second.new; words = words.new }) }
 {
-    joint::joint(scalar::order_of(order), a, b, first, second, words)
+    joint::joint(order.into(), a, b, first, second, words).into()
 }
 
 pub fn sarvundole_run_joint(
@@ -31,5 +30,5 @@ pub fn sarvundole_run_joint(
 ) -> Ran
     ensures { RunJoint tape.now modulus first second entries.old (ran result) entries.new }
 {
-    exported::reported(joined::run_joint(tape, modulus, first, second, entries))
+    joined::run_joint(tape, modulus, first, second, entries).into()
 }

@@ -48,10 +48,6 @@ equal_not N G q e z = same_tests false (ltb N G) (λ t. absurd t) (λ _. not_T (
     same = sym (all N) ∙ e ∙ all G
 
 -- ---- what a comparison tells where it is negated
-pub is_below : (N G : ℕ) (r : Bool) → r ≡ ltb N G → not r ≡ false → N < G
-is_below N G true e h = ltb→lt N G (subst T e tt)
-is_below N G false e h = absurd (true_false h)
-
 pub not_below : (N G : ℕ) (r : Bool) → r ≡ ltb N G → not r ≡ true → G ≤ N
 not_below N G true e h = absurd (true_false (sym h))
 not_below N G false e h = nltb→le N G (subst (λ b. T (not b)) e tt)

@@ -11,7 +11,7 @@ use lib.ListN.{get_or}
 use Rattle.meaning.specs.Digits.{largest}
 use Rattle.meaning.specs.Searching.{search_places, Spells}
 use Rattle.width.specs.Widths.{Wide}
-use Rattle.search.specs.Least.{nothing, digit_at, left_over, Least}
+use Rattle.search.specs.Least.{digit_at, left_over, Least}
 use Rattle.search.proofs.Negated.{least_negated}
 use Rattle.search.proofs.Lowest.{put, rest, lowest_parity, lowest_in}
 use Rattle.search.proofs.Order.{number_of, digit_numbered, number_small, number_at, numbered_in, nonzero_at, left_parity, above}
@@ -24,9 +24,6 @@ Under w places m first ds = Spells w places (pos m) ds × (number_of (get_or ds 
 -- the best of them when so many digits were tried
 abbrev pub Tried : (w places m first best : ℕ) → Type 0
 Tried w places m first best = Lightest (Under w places m first) best
-
-pub tried_none : (w places m : ℕ) → Tried w places m 0 nothing
-tried_none w places m = record { most = omega arith; reached = λ h. absurd (omega arith); least = λ ds u. absurd (omega (arith, u.1)) }
 
 module _ (w m : ℕ) {places p : ℕ} (few : places ≤ search_places) (next : places ≡ suc p) where
   -- a string with one digit more at the lowest place has that digit or one before it

@@ -5,7 +5,7 @@ use Prim.Native.Nat.{ℕ, zero, suc, ◌+◌, ◌*◌, ◌-◌, ◌%◌, ◌<◌
 use native.Mathlib.Nat.{mod-lt, add-zero, add_assoc}
 use native.Mathlib.Omega.{arith}
 use lib.Dec.{ltb, lt→ltb, ltb→lt, not_T}
-use lib.ListN.{length, get_or, set, take, drop, length-append, length-drop}
+use lib.ListN.{length, get_or, set, take, drop}
 use lib.Seq.{take-append_seam, drop-append-add, drop-drop, get_or-take}
 use Rattle.laws.proofs.Choices.{either, yes_is, no_is}
 use Rattle.laws.proofs.Stores.{Filled, fill_more}
@@ -72,11 +72,7 @@ module _ (count m g : ℕ) where
           aft = refl;
         })
 
-    -- as long as what was lent, and what stands past the entries stands
-    pub stored_length : length d ≡ length lent
-    unfolding several
-    stored_length = ap length is ∙ omega (arith, length-append several (drop count lent), listed_length (stored m g) 0 count, length-drop count lent)
-
+    -- what stands past the entries stands
     pub stored_rest : drop (2 * count) d ≡ drop (2 * count) lent
     unfolding several
     stored_rest =

@@ -11,8 +11,8 @@ use Rattle.laws.proofs.Choices.{not_below}
 use Rattle.laws.proofs.Division.{same_floor}
 use Rattle.meaning.specs.Digits.{entries}
 use Rattle.meaning.specs.Sets.{Pair}
-use Rattle.meaning.specs.Words.{most_words, entry_of}
-use Rattle.meaning.specs.Walks.{tape_value, doublings, additions, Good}
+use Rattle.meaning.specs.Words.{most_words}
+use Rattle.meaning.specs.Walks.{tape_value, doublings, additions}
 use Rattle.meaning.specs.Taping as Taping
 use Rattle.meaning.specs.Taping.{tape_of, Tape}
 use Rattle.meaning.specs.Multiples.{cost_of}
@@ -24,6 +24,7 @@ use Rattle.walk.proofs.Lengths.{tape_fits}
 use Rattle.walk.proofs.Tapes.{Faithful, faithful, tape_good}
 use Rattle.walk.proofs.Translation.{AllGood, translation_length, value_translated, good_translated, counts_translated}
 use Rattle.tape.proofs.Refusals as Tapes
+use Rattle.run.proofs.Words.{good_of}
 use Rattle.run.proofs.Together.{Done}
 use Rattle.second.proofs.Translates.{written_words}
 
@@ -80,17 +81,6 @@ module _ (w l : ℕ) {ws words₀ words : List ℕ} {t : Translated} (fine : Fin
         }
 
 -- ---- a tape that the run accepts
--- a word that is not bad is good
-good_of : (count i x : ℕ) → ((Good count i x → ⊥) → ⊥) → Good count i x
-good_of count i x n =
-    record {
-      code = not_below (λ h. n (λ g. omega (arith, g.code)));
-      entry = not_below (λ h. n (λ g. omega (arith, g.entry)));
-      double = λ z. let l : entry_of x ≤ 0 = not_below (λ h. n (λ g. omega (arith, g.double z))) in omega arith;
-      first = λ z. (not_below (λ h. n (λ g. omega (arith, (g.first z).0))), not_below (λ h. n (λ g. omega (arith, (g.first z).1))));
-      later = λ p l. n (λ g. g.later p l);
-    }
-
 -- what both runs report
 pub record Same (a b : Ran) : Type 0 where
   pub residue_is : b.residue ≡ a.residue

@@ -1,26 +1,48 @@
--- A word of a tape for the second chip: translated as the code does it, and judged. Assumes nothing.
-use mathlib.Core.Path.{◌≡◌, refl, sym, ◌∙◌, subst}
-use mathlib.Core.Logic.{◌≢◌, inl, inr, ⊎_elim}
-use mathlib.Core.Bool.{Bool, false}
+-- A word of a tape for the second chip: whether it negates, and what it is on this chip. Assumes nothing.
+use mathlib.Core.Path.{◌≡◌, refl, sym, ap, ◌∙◌, subst}
+use mathlib.Core.Logic.{◌≢◌, ◌⊎◌, inl, inr, ⊎_elim}
+use mathlib.Core.Bool.{true, false}
 use Prim.Native.Nat.{ℕ, ◌+◌, ◌-◌}
 use native.Mathlib.Omega.{arith}
-use borrow.Author.Tests.{eqb-true, eqb-false}
-use lib.Dec.{eqb}
 use Rattle.laws.specs.Deciding.{Decides}
 use Rattle.laws.proofs.Choices.{denies}
-use Rattle.meaning.specs.Words.{code_of, entry_of, plus, minus, Step, double, load, add, bad, step_of, word_of}
+use Rattle.meaning.specs.Words.{code_of, entry_of, signed, plus, minus, Step, double, load, add, bad, step_of, word_of}
 use Rattle.meaning.specs.Walks.{Good}
-use Rattle.meaning.specs.SecondChip.{SecondGood, turned, translated}
+use Rattle.meaning.specs.SecondChip.{turned, translated}
+use Rattle.tape.specs.declared.Sign.TheVariants.{Plus, Minus}
+use Rattle.tape.specs.declared.Move.{Move}
+use Rattle.tape.specs.declared.Step as Steps
+use Rattle.tape.specs.declared.Step.TheVariants.{Double, Load, Add, Bad}
+use Rattle.tape.specs.Steps.{side, told}
 use Rattle.walk.proofs.Words.{Says, step_says, back_word}
+use Rattle.run.proofs.Words.{says}
 use Rattle.second.specs.Words.{Negates}
 
 -- ---- a word's code
--- as the code tests it
-pub negates_load : (x : ℕ) → code_of x ≡ 2 → Decides (eqb (code_of x) 2) (Negates x)
-negates_load x e = record { yes = λ t. inl e; no = λ f. absurd (eqb-false (code_of x) 2 f e) }
+-- as the code tests it, by its step
+module _ (x : ℕ) {s : Steps.Step} (is : told s ≡ step_of x) where
+  pub negates_minus : (m : Move) → m.sign ≡ Minus → (s ≡ Load m) ⊎ (s ≡ Add m) → Decides true (Negates x)
+  negates_minus m sign e = record { yes = λ t. ⊎_elim load add e; no = λ f. absurd (cc) }
+    where
+      load : s ≡ Load m → Negates x
+      load e = inl ((says x is e).0 ∙ ap (λ g. signed (side g) 1) sign)
 
-pub negates_add : (x : ℕ) → code_of x ≢ 2 → Decides (eqb (code_of x) 4) (Negates x)
-negates_add x n = record { yes = λ t. inr (eqb-true (code_of x) 4 t); no = λ f. ⊎_elim n (eqb-false (code_of x) 4 f) }
+      add : s ≡ Add m → Negates x
+      add e = inr ((says x is e).0 ∙ ap (λ g. signed (side g) 3) sign)
+
+  pub negates_plus : (m : Move) → m.sign ≡ Plus → (s ≡ Load m) ⊎ (s ≡ Add m) → Decides false (Negates x)
+  negates_plus m sign e = denies (⊎_elim (λ n. other (λ c. omega arith) (λ c. omega arith)) (λ n. other (λ c. omega arith) (λ c. omega arith)))
+    where
+      other : {P : Type 0} → (code_of x ≡ 1 → P) → (code_of x ≡ 3 → P) → P
+      other f g =
+          ⊎_elim (λ (l : s ≡ Load m). f ((says x is l).0 ∙ ap (λ g. signed (side g) 1) sign)) (λ (l : s ≡ Add m). g ((says x is l).0 ∙ ap (λ g. signed (side g) 3) sign)) e
+
+-- a double and a bad word negate nothing
+pub negates_none : (x : ℕ) (s : Steps.Step) → told s ≡ step_of x → ((m : Move) → s ≡ Load m → ⊥) → ((m : Move) → s ≡ Add m → ⊥) → Decides false (Negates x)
+negates_none x Double is l a = denies (let code : Says double (code_of x) (entry_of x) = says x {s = Double} is refl in ⊎_elim (λ n. omega arith) (λ n. omega arith))
+negates_none x (Load m) is l a = absurd (l m refl)
+negates_none x (Add m) is l a = absurd (a m refl)
+negates_none x Bad is l a = denies (let code : Says bad (code_of x) (entry_of x) = says x {s = Bad} is refl in ⊎_elim (λ n. ⊎_elim (λ h. omega arith) (λ h. omega arith) code) (λ n. ⊎_elim (λ h. omega arith) (λ h. omega arith) code))
 
 -- ---- a word translated
 -- a good word is not bad
@@ -56,13 +78,3 @@ module _ (count x : ℕ) where
       go (add plus e) s n = refl
       go (add minus e) (c, _) n = absurd (none (inr c))
       go bad s n = absurd (n refl)
-
--- ---- a word judged
-module _ (count i x : ℕ) where
-  -- what negates is bad
-  pub judged_negating : Negates x → Decides false (SecondGood count i x)
-  judged_negating c = denies (λ g. ⊎_elim g.no_load_negated g.no_subtraction c)
-
-  -- and what does not, is as good as in a tape
-  pub judged_as : {r : Bool} → (Negates x → ⊥) → Decides r (Good count i x) → Decides r (SecondGood count i x)
-  judged_as none j = record { yes = λ t. record { good = j.yes t; no_load_negated = λ e. none (inl e); no_subtraction = λ e. none (inr e) }; no = λ f g. j.no f g.good }

@@ -8,10 +8,12 @@ ghost use Rattle.meaning.specs.Walks.{Good};
 ghost use Rattle.meaning.specs.SecondChip.{SecondGood, translated as translatedBy, translation, second_multiples_of, Translate};
 ghost use Rattle.run.specs.Words.{Sifted};
 ghost use Rattle.second.specs.Words.{Negates};
-ghost use Rattle.second.specs.Promises.{translated, Promise};
+ghost use Rattle.second.specs.Promises.{answered, Answers, Promise};
 
-use run::{Outcome, Ran};
-use width::{DigitSet, Known, Width};
+use refusals::{Reason, Refusal};
+use run::{Ran, Residues};
+use tape::{Sign, Step};
+use width::{DigitSet, Width};
 
 // ---- words
 // What one more in a word's code adds to the word: the code stands over twelve bits of entry.
@@ -21,8 +23,10 @@ const CODE: u16 = 4096;
 fn negates(word: u16) -> bool
     ensures { Decides result (Negates word) }
 {
-    let code = word / CODE;
-    code == 2 || code == 4
+    match tape::decode(word) {
+        Step::Load(m) | Step::Add(m) => matches!(m.sign, Sign::Minus),
+        _ => false,
+    }
 }
 
 // ---- the translation
@@ -44,14 +48,12 @@ fn write(count: u16, tape: &[u16], words: &mut [u16])
     requires by_index { (i : ℕ) → i < length tape.now → Good count i (get_or tape.now i 0) }
     ensures { words.new ≡ translation count tape.now ++ drop (length tape.now) words.old }
 {
-    let mut i = 0;
-    while i < tape.len() {
-        words[i] = turned(count, tape[i]);
-        i += 1;
+    for (i, word) in tape.iter().enumerate() {
+        words[i] = turned(count, *word);
     }
 }
 
-// What a translation is: a refusal's number and place, or the count of its words.
+// What a translation is for C: a refusal's number and place, or the count of its words.
 #[repr(C)]
 #[derive(Clone, Copy)]
 pub struct Translated {
@@ -60,40 +62,44 @@ pub struct Translated {
     pub words: u16,
 }
 
-fn refused(number: u8, place: u16) -> Translated
-    ensures { result ≡ record { refusal = number; place = place; words = 0 } }
-{
-    Translated {
-        refusal: number,
-        place,
-        words: 0,
+impl From<Result<u16, Refusal>> for Translated {
+    ghost from_gives = { Answers };
+
+    fn from(answer: Result<u16, Refusal>) -> Translated {
+        match answer {
+            Ok(words) => Translated {
+                refusal: 0,
+                place: 0,
+                words,
+            },
+            Err(refusal) => Translated {
+                refusal: refusal.reason.into(),
+                place: refusal.place,
+                words: 0,
+            },
+        }
     }
 }
 
-// A tape that the run accepts, in the second chip's words: nothing is written before all words and the room for them have been judged.
-pub fn translate(set: DigitSet, tape: &[u16], words: &mut [u16]) -> Translated
-    ensures { Translate set.width set.largest tape.now words.old (translated result) words.new }
+// A tape that the run accepts, in the second chip's words, and the count of them: nothing is written before all words and the room for them have been judged.
+pub fn translate(set: DigitSet, tape: &[u16], words: &mut [u16]) -> Result<u16, Refusal>
+    ensures { Translate set.width set.largest tape.now words.old (answered result) words.new }
 {
-    let Known::As(known) = set.known() else {
-        return refused(set.fault(), 0);
-    };
+    let count = set.tried()?.entries();
     if Width::MOST_WORDS < tape.len() {
-        return refused(13, 0);
+        return Err(Reason::LongTape.into());
     }
-    let count = known.entries();
-    let bad = run::first_bad(count, tape);
-    if bad < tape.len() {
-        return refused(15, bad as u16);
+    if let Some(place) = run::first_bad(count, tape) {
+        return Err(Refusal {
+            reason: Reason::BadWord,
+            place: place as u16,
+        });
     }
     if words.len() < tape.len() {
-        return refused(11, 0);
+        return Err(Reason::ShortTape.into());
     }
     write(count as u16, tape, words);
-    Translated {
-        refusal: 0,
-        place: 0,
-        words: tape.len() as u16,
-    }
+    Ok(tape.len() as u16)
 }
 
 // ---- the run
@@ -102,26 +108,18 @@ fn good(count: usize, index: usize, word: u16) -> bool
     requires { 0 < count }
     ensures { Decides result (SecondGood count index word) }
 {
-    if negates(word) {
-        false
-    } else {
-        run::good(count, index, word)
-    }
+    !negates(word) && run::good(count, index, word)
 }
 
-// The index of the first bad word, or the count of words.
-fn first_bad(count: usize, words: &[u16]) -> usize
+// The index of the first bad word.
+fn first_bad(count: usize, words: &[u16]) -> Option<usize>
     requires { 0 < count }
     ensures { Sifted (SecondGood count) words.now result }
 {
-    let mut i = 0;
-    while i < words.len() {
-        if !good(count, i, words[i]) {
-            return i;
-        }
-        i += 1;
-    }
-    i
+    words
+        .iter()
+        .enumerate()
+        .position(|(i, word)| !good(count, i, *word))
 }
 
 // Stores so many odd multiples of the base, and after them what each lacks of the modulus.
@@ -131,10 +129,9 @@ fn store(count: usize, modulus: u32, base: u32, multiples: &mut [u32])
     ensures { multiples.new ≡ second_multiples_of count modulus base ++ drop (2 * count) multiples.old }
 {
     run::store(count, modulus, base, multiples);
-    let mut e = 0;
-    while e < count {
+    // By index: through a `zip` of the two halves it is not known what is written, and an index into one half beside the other is no plainer.
+    for e in 0..count {
         multiples[count + e] = run::plus(0, modulus - multiples[e], modulus);
-        e += 1;
     }
 }
 
@@ -145,33 +142,32 @@ pub fn run_second(
     modulus: u32,
     base: u32,
     multiples: &mut [u32],
-) -> Ran
+) -> Result<Ran, Refusal>
     ensures { Promise set.width set.largest tape.now modulus base multiples.old result multiples.new }
 {
-    let Known::As(known) = set.known() else {
-        return run::refused(set.fault(), 0);
-    };
+    let count = set.tried()?.entries();
     if modulus == 0 {
-        return run::refused(12, 0);
+        return Err(Reason::ZeroModulus.into());
     }
     if Width::MOST_WORDS < tape.len() {
-        return run::refused(13, 0);
+        return Err(Reason::LongTape.into());
     }
-    let count = known.entries();
     let all = 2 * count;
     if multiples.len() < all {
-        return run::refused(14, 0);
+        return Err(Reason::FewMultiples.into());
     }
-    let bad = first_bad(all, tape);
-    if bad < tape.len() {
-        return run::refused(15, bad as u16);
+    if let Some(place) = first_bad(all, tape) {
+        return Err(Refusal {
+            reason: Reason::BadWord,
+            place: place as u16,
+        });
     }
     store(count, modulus, base, multiples);
-    let state = run::reach(tape, modulus, multiples);
-    Ran {
-        outcome: Outcome::Residue(state.value),
+    let state = run::reach(&Residues { modulus, multiples }, tape);
+    Ok(Ran {
+        residue: state.value,
         doublings: state.doublings,
         additions: state.additions,
         cost: run::cost_of(count),
-    }
+    })
 }

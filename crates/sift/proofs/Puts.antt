@@ -1,19 +1,18 @@
--- Text that is put into lent memory: a character more, one text behind another, and what then stands in front. Assumes nothing.
+-- Text that is put into lent memory: a text that is copied there, and one text behind another. Assumes nothing.
 use mathlib.Core.Path.{◌≡◌, refl, sym, ap, subst, ◌∙◌}
-use mathlib.Core.List.{List, [], ◌∷◌, ◌++◌}
-use Prim.Native.Nat.{ℕ, suc, ◌+◌, ◌<◌}
-use native.Mathlib.Numerals.{add-one}
+use mathlib.Core.List.{List, [], ◌∷◌, ◌++◌, append_assoc}
+use Prim.Native.Nat.{ℕ, ◌+◌, ◌<◌, ◌≤◌}
 use native.Mathlib.Omega.{arith}
-use lib.ListN.{length, get_or, drop, set, length-set, length-append}
-use lib.Seq.{sets, drop-cons}
+use lib.ListN.{length, take, drop, set, length-set, length-append}
+use lib.Seq.{sets, sets-eq, length-sets, drop-drop}
 use Rattle.laws.proofs.Runs.{sets_append}
 use Rattle.sift.specs.Puts.{Puts}
 
--- the first character of the rest is stored, and then the rest after it
-pub stored_next : (text out : List ℕ) (at i : ℕ) → i < length text → sets out (at + i) (drop i text) ≡ sets (set out (at + i) (get_or text i 0)) (at + (i + 1)) (drop (i + 1) text)
-stored_next text out at i h =
-    let e : suc (at + i) ≡ at + (i + 1) = omega arith in
-    rw (drop-cons text i 0 h, ← add-one i) (ap (λ k. sets (set out (at + i) (get_or text i 0)) k (drop (i + 1) text)) e)
+-- a text that is copied to its place
+pub puts_copy : (text out : List ℕ) (at n : ℕ) → n ≡ length text → at + length text ≤ length out → Puts text at out (at + length text) (take at out ++ (text ++ drop n (drop at out)))
+puts_copy text out at n e h =
+    let stored = ap (λ l. take at out ++ (text ++ l)) (drop-drop n at out ∙ ap (λ k. drop (at + k) out) e) ∙ sym (append_assoc (take at out) text (drop (at + length text) out)) ∙ sym (sets-eq text out at h) in
+    record { within = omega (arith, ap length stored, length-sets out at text); end_is = refl; out_is = stored }
 
 -- no text, at the front; and the same text by another name
 pub puts_none : (out : List ℕ) → Puts [] 0 out 0 out

@@ -2,10 +2,9 @@
 use mathlib.Core.Path.{◌≡◌, refl, sym, ap, subst, ◌∙◌}
 use mathlib.Core.Logic.{◌≢◌}
 use mathlib.Core.List.{List, [], ◌∷◌, ◌++◌, append-nil}
-use Prim.Native.Nat.{ℕ, zero, suc, ◌+◌, ◌-◌, ◌<◌, ◌≤◌}
+use Prim.Native.Nat.{ℕ, ◌+◌, ◌-◌, ◌<◌, ◌≤◌}
 use native.Mathlib.Nat.{zero-add}
 use native.Mathlib.Omega.{arith}
-use lib.IntN.{ℤ}
 use lib.ListN.{length, take, drop, length-take, length-drop, length-append}
 use lib.Seq.{length-sets, length-take-le, take_at, take-add, take-nil}
 use Rattle.meaning.specs.Salvage.{kept_line, kept_lines, remarks, reported, told}
@@ -18,7 +17,8 @@ use Rattle.layout.proofs.Verdicts.{cut_same}
 use Rattle.layout.proofs.Salvage.{kept_append, reported_append, told_append, kept_one, reported_one}
 use Rattle.sift.specs.Puts.{Puts}
 use Rattle.sift.specs.declared.Fed.{Fed}
-use Rattle.sift.specs.Sifts.{least_kept, Lent, Holds, Taken, Stepped, Feeds}
+use Rattle.sift.specs.declared.Room.{Room}
+use Rattle.sift.specs.Sifts.{least_kept, Same, Holds, Taken, Stepped}
 
 -- ---- a line
 -- what is kept of a line is judged as the line
@@ -77,6 +77,21 @@ module _ {k : ℕ} {p before line₀ : List ℕ} {kept₀ : ℕ} {out : List ℕ
         number_is = omega (arith, t.number_is, ap length same, length-append ls (w ∷ []));
       }
 
+-- ---- lent memory stays as long as it is
+pub same_start : (r : Room) → Same r r
+same_start r = record { digits_same = refl; out_same = refl; report_same = refl; digits_length = refl; out_length = refl; report_length = refl }
+
+pub same_more : {r₀ r r' : Room} → Same r₀ r → Same r r' → Same r₀ r'
+same_more s t =
+    record {
+      digits_same = t.digits_same ∙ s.digits_same;
+      out_same = t.out_same ∙ s.out_same;
+      report_same = t.report_same ∙ s.report_same;
+      digits_length = t.digits_length ∙ s.digits_length;
+      out_length = t.out_length ∙ s.out_length;
+      report_length = t.report_length ∙ s.report_length;
+    }
+
 -- ---- a piece is taken in, line by line: the loop's invariant
 pub record Feeding (piece line₀ : List ℕ) (kept₀ number₀ : ℕ) (line out report : List ℕ) (used kept number filled said : ℕ) : Type 0 where
   pub used_within : used ≤ length piece
@@ -129,22 +144,6 @@ module _ {piece line₀ : List ℕ} {kept₀ number₀ : ℕ} {line out report :
           taken = λ p k. rw more (s.taken number₀ p (take used piece) (f.taken p k));
         }
 
-  -- where it stops, something was used, if there was something to use
-  pub fed : (0 < length piece → 0 < used) → Feeds piece line₀ kept₀ number₀ (record { used = used; kept = kept; number = number; filled = filled; said = said }) line out report
-  fed moves =
-      record {
-        bounded = record { used_within = f.used_within; kept_within = f.kept_within; filled_within = f.filled_within; said_within = f.said_within; moves = moves };
-        number_within = f.number_within;
-        taken = f.taken;
-      }
-
-  pub some_used : 0 < filled + said → 0 < used
-  some_used h = go used f.start
-    where
-      go : (n : ℕ) → (n ≡ 0 → (filled ≡ 0) × (said ≡ 0)) → 0 < n
-      go zero s = let e = s refl in absurd (omega (arith, e.0, e.1))
-      go (suc n) s = omega arith
-
 -- ---- the end
 -- of no line only is nothing kept
 pub last_none : (p line : List ℕ) → 0 < length line → Keeps p line 0 → last p ≡ []
@@ -154,23 +153,3 @@ last_none (c ∷ p) line h k = absurd (omega (arith, k.count_is, length-take (le
 pub last_some : (p line : List ℕ) (kept : ℕ) → Keeps p line kept → kept ≢ 0 → last p ≡ p ∷ []
 last_some [] line kept k n = absurd (n (k.count_is ∙ ap length (take-nil (length line))))
 last_some (c ∷ p) line kept k n = refl
-
--- ---- a loop over lent memory
--- the memory is as long as it was
-pub record Sized (line₀ : List ℕ) (digits₀ : List ℤ) (out₀ report₀ line : List ℕ) (digits : List ℤ) (out report : List ℕ) : Type 0 where
-  pub line_length_is : length line ≡ length line₀
-  pub digits_length : length digits ≡ length digits₀
-  pub out_length : length out ≡ length out₀
-  pub report_length : length report ≡ length report₀
-
-pub sized_start : (line : List ℕ) (digits : List ℤ) (out report : List ℕ) → Sized line digits out report line digits out report
-sized_start line digits out report = record { line_length_is = refl; digits_length = refl; out_length = refl; report_length = refl }
-
--- so it stays enough
-pub lent_still : {line₀ out₀ report₀ line out report : List ℕ} {digits₀ digits : List ℤ} → Sized line₀ digits₀ out₀ report₀ line digits out report → Lent digits₀ out₀ report₀ → Lent digits out report
-lent_still s l =
-    record {
-      digits_fit = omega (arith, l.digits_fit, s.digits_length);
-      line_fits = omega (arith, l.line_fits, s.out_length);
-      remark_fits = omega (arith, l.remark_fits, s.report_length);
-    }

@@ -1,11 +1,14 @@
 -- A damaged file, taken in piece by piece: what is written of its lines and said of them, and what the functions do. Assumes nothing.
-use Rattle.std.specs.Prelude.{◌≡◌, List, ◌++◌, ℕ, ◌+◌, ◌<◌, ◌≤◌, ℤ, length, take}
+use Rattle.std.specs.Prelude.{◌≡◌, List, ◌++◌, ℕ, ◌+◌, ◌<◌, ◌≤◌, ℤ, length, take, Result, Ok, Err}
 use Rattle.meaning.specs.Digits.{most_places}
 use Rattle.meaning.specs.Salvage.{most_line, kept_line, kept_lines, remarks, reported, told}
 use Rattle.cutter.specs.Cuts.{ended, begun, last, Keeps}
 use Rattle.sift.specs.Puts.{Puts, most_remark}
 use Rattle.sift.specs.declared.Sifted.{Sifted}
 use Rattle.sift.specs.declared.Fed.{Fed}
+use Rattle.sift.specs.declared.Room.{Room}
+use Rattle.refusals.specs.declared.Reason.{Reason}
+use Rattle.refusals.specs.Coded.{coded}
 
 -- enough is lent for every line: its places, the line with its line feed, and a remark
 pub record Lent (digits : List ℤ) (out report : List ℕ) : Type 0 where
@@ -14,6 +17,11 @@ pub record Lent (digits : List ℤ) (out report : List ℕ) : Type 0 where
   pub remark_fits : most_remark ≤ length report
 
 -- ---- a line, which is number k
+-- the number of its refusal, 0 where it is kept
+abbrev pub judged : Result (Unit {0}) Reason → ℕ
+judged (Ok _) = 0
+judged (Err r) = coded r
+
 pub record Sifts (k : ℕ) (line out₀ report₀ : List ℕ) (s : Sifted) (out report : List ℕ) : Type 0 where
   pub keeps : Puts (kept_line line) 0 out₀ s.filled out
   pub tells : Puts (told (remarks k line)) 0 report₀ s.said report
@@ -33,6 +41,15 @@ pub record Taken (k : ℕ) (p piece line : List ℕ) (kept : ℕ) (out : List �
   pub number_is : number ≡ length (ended p piece) + k
 
 -- ---- the functions
+-- the memory that is lent is the same, and as long as it was
+pub record Same (r₀ r : Room) : Type 0 where
+  pub digits_same : r.digits.ghost_name ≡ r₀.digits.ghost_name
+  pub out_same : r.out.ghost_name ≡ r₀.out.ghost_name
+  pub report_same : r.report.ghost_name ≡ r₀.report.ghost_name
+  pub digits_length : length r.digits.now ≡ length r₀.digits.now
+  pub out_length : length r.out.now ≡ length r₀.out.now
+  pub report_length : length r.report.now ≡ length r₀.report.now
+
 -- what they answer stays within the memory
 pub record Bounded (piece line out report : List ℕ) (f : Fed) : Type 0 where
   pub used_within : f.used ≤ length piece

@@ -3,7 +3,9 @@
 #![tactic(auto)]
 
 ghost use Rattle.std.specs.Prelude.{◌+◌, ◌^◌, ◌<◌, ◌≤◌, length, drop};
-ghost use Rattle.sift.specs.Sifts.{least_kept, Lent, Sifts, Stepped, Feeds, Ends};
+ghost use Rattle.sift.specs.Sifts.{least_kept, Lent, Same, Sifts, Stepped, Feeds, Ends};
+
+use cutter::Cut;
 
 mod lines;
 mod remarks;
@@ -42,9 +44,8 @@ pub fn sift(
     requires { Lent digits.old out.old report.old }
     ensures { Sifts number line.now out.old report.old result out.new report.new }
 {
-    let refusal = lines::verdict(line, digits);
-    if refusal != 0 {
-        let said = remarks::dropped(number, refusal, report);
+    if let Err(reason) = lines::verdict(line, digits) {
+        let said = remarks::dropped(number, reason, report);
         return Sifted { filled: 0, said };
     }
     let filled = lines::keep(line, out);
@@ -55,115 +56,105 @@ pub fn sift(
     Sifted { filled, said: 0 }
 }
 
-// The next line of a piece, as far as it stands there. Where it ends, it is judged.
-fn step(
-    piece: &[u8],
-    line: &mut [u8],
-    digits: &mut [i8],
-    out: &mut [u8],
-    report: &mut [u8],
-    kept: usize,
-    number: u64,
-    filled: usize,
-    said: usize,
-) -> Fed
-    requires kept_in_bounds { (kept ≤ length line.old) × (least_kept ≤ length line.old) }
-    requires filled_in_bounds { (filled ≤ length out.old) × (said ≤ length report.old) }
-    requires lent { Lent digits.old (drop filled out.old) (drop said report.old) }
-    requires number_bound { number + 1 < 2 ^ 64 }
-    ensures { Stepped piece.now line.old kept out.old filled report.old said number result line.new out.new report.new }
-{
-    let cut = cutter::next(piece, line, kept);
-    if cut.ended {
-        let end = cut.kept;
-        let sifted = sift(
-            &line[..end],
-            number,
-            digits,
-            &mut out[filled..],
-            &mut report[said..],
-        );
-        return Fed {
-            used: cut.used,
-            kept: 0,
-            number: number + 1,
-            filled: filled + sifted.filled,
-            said: said + sifted.said,
-        };
-    }
-    Fed {
-        used: cut.used,
-        kept: cut.kept,
-        number,
-        filled,
-        said,
-    }
+// What is lent to a file: what a line is read into, and where lines and remarks are written. The line that has not ended stands apart: in the
+// struct, the proof would not know it any more once its front is lent to be read. What this shares with `stream` is `cutter::next`: all that is lent, read into and
+// written differs.
+#[derive(Drop)]
+pub struct Room<'a> {
+    pub digits: &'a mut [i8],
+    pub out: &'a mut [u8],
+    pub report: &'a mut [u8],
 }
 
-// Takes in a piece of a file, as far as there is room for a whole line and a whole remark more. The line that it goes on with has the number told.
-pub fn feed(
-    piece: &[u8],
-    line: &mut [u8],
-    kept: usize,
-    number: u64,
-    digits: &mut [i8],
-    out: &mut [u8],
-    report: &mut [u8],
-) -> Fed
-    requires kept_in_bounds { (kept ≤ length line.old) × (least_kept ≤ length line.old) }
-    requires lent { Lent digits.old out.old report.old }
-    requires piece_bound { number + length piece.now < 2 ^ 64 }
-    ensures { Feeds piece.now line.old kept number result line.new out.new report.new }
-{
-    let room = out.len() - MOST_LINE;
-    let space = report.len() - remarks::MOST;
-    let mut used = 0;
-    let mut kept = kept;
-    let mut number = number;
-    let mut filled = 0;
-    let mut said = 0;
-    while used < piece.len() && filled <= room && said <= space {
-        let fed = step(
-            &piece[used..],
-            line,
-            digits,
-            out,
-            report,
+impl Room<'_> {
+    // The next line of a piece, as far as it stands there. Where it ends, it is judged.
+    fn step(
+        &mut self,
+        piece: &[u8],
+        line: &mut [u8],
+        kept: usize,
+        number: u64,
+        filled: usize,
+        said: usize,
+    ) -> Fed
+        requires kept_in_bounds { (kept ≤ length line.old) × (least_kept ≤ length line.old) }
+        requires filled_in_bounds { (filled ≤ length self.old.out.now) × (said ≤ length self.old.report.now) }
+        requires lent { Lent self.old.digits.now (drop filled self.old.out.now) (drop said self.old.report.now) }
+        requires number_bound { number + 1 < 2 ^ 64 }
+        ensures stepped { Stepped piece.now line.old kept self.old.out.now filled self.old.report.now said number result line.new self.new.out.now self.new.report.now }
+        ensures same { Same self.old self.new }
+    {
+        match cutter::next(piece, line, kept) {
+            Cut::GoesOn { kept } => Fed {
+                used: piece.len(),
+                kept,
+                number,
+                filled,
+                said,
+            },
+            Cut::Ends { used, kept } => {
+                let sifted = sift(
+                    &line[..kept],
+                    number,
+                    self.digits,
+                    &mut self.out[filled..],
+                    &mut self.report[said..],
+                );
+                Fed {
+                    used,
+                    kept: 0,
+                    number: number + 1,
+                    filled: filled + sifted.filled,
+                    said: said + sifted.said,
+                }
+            }
+        }
+    }
+
+    // Takes in a piece of a file, as far as there is room for a whole line and a whole remark more. The line that it goes on with has the number told.
+    pub fn feed(&mut self, piece: &[u8], line: &mut [u8], kept: usize, number: u64) -> Fed
+        requires kept_in_bounds { (kept ≤ length line.old) × (least_kept ≤ length line.old) }
+        requires lent { Lent self.old.digits.now self.old.out.now self.old.report.now }
+        requires piece_bound { number + length piece.now < 2 ^ 64 }
+        ensures feeds { Feeds piece.now line.old kept number result line.new self.new.out.now self.new.report.now }
+        ensures same { Same self.old self.new }
+    {
+        let room = self.out.len() - MOST_LINE;
+        let space = self.report.len() - remarks::MOST;
+        let mut fed = Fed {
+            used: 0,
             kept,
             number,
-            filled,
-            said,
-        );
-        used += fed.used;
-        kept = fed.kept;
-        number = fed.number;
-        filled = fed.filled;
-        said = fed.said;
+            filled: 0,
+            said: 0,
+        };
+        while fed.used < piece.len() && fed.filled <= room && fed.said <= space {
+            let next = self.step(
+                &piece[fed.used..],
+                line,
+                fed.kept,
+                fed.number,
+                fed.filled,
+                fed.said,
+            );
+            fed = Fed {
+                used: fed.used + next.used,
+                ..next
+            };
+        }
+        fed
     }
-    Fed {
-        used,
-        kept,
-        number,
-        filled,
-        said,
-    }
-}
 
-// The end of a file: a last line without a line feed is judged if not empty.
-pub fn finish(
-    line: &[u8],
-    kept: usize,
-    number: u64,
-    digits: &mut [i8],
-    out: &mut [u8],
-    report: &mut [u8],
-) -> Sifted
-    requires kept_in_bounds { (kept ≤ length line.now) × (least_kept ≤ length line.now) }
-    requires lent { Lent digits.old out.old report.old }
-    ensures { Ends number line.now kept result out.new report.new }
-{
-    if kept == 0 {
-        return Sifted { filled: 0, said: 0 };
+    // The end of a file: a last line without a line feed is judged if not empty.
+    pub fn finish(&mut self, line: &[u8], kept: usize, number: u64) -> Sifted
+        requires kept_in_bounds { (kept ≤ length line.now) × (least_kept ≤ length line.now) }
+        requires lent { Lent self.old.digits.now self.old.out.now self.old.report.now }
+        ensures ends { Ends number line.now kept result self.new.out.now self.new.report.now }
+        ensures same { Same self.old self.new }
+    {
+        if kept == 0 {
+            return Sifted { filled: 0, said: 0 };
+        }
+        sift(&line[..kept], number, self.digits, self.out, self.report)
     }
-    sift(&line[..kept], number, digits, out, report)
 }

@@ -6,32 +6,29 @@ ghost use Rattle.meaning.specs.Lines.{line_feed};
 ghost use Rattle.meaning.specs.Hexadecimal.{between, raised, in_capitals, has_small};
 ghost use Rattle.meaning.specs.Salvage.{verdict};
 ghost use Rattle.sift.specs.Puts.{Puts};
+ghost use Rattle.sift.specs.Sifts.{judged};
 
-// The refusal of a line that is longer than any frame.
-const STRANGE: u8 = 16;
+use refusals::Reason;
 
 // How far a small letter stands above its capital.
 const CASE: u8 = b'a' - b'A';
 
-// The refusal of a line, 0 where it is kept. It is read into `digits`.
-pub fn verdict(line: &[u8], digits: &mut [i8]) -> u8
+// Whether a line is kept, or why it is refused. It is read into `digits`. One that is longer than any frame is malformed.
+pub fn verdict(line: &[u8], digits: &mut [i8]) -> Result<(), Reason>
     requires { most_places ≤ length digits.old }
-    ensures { result ≡ verdict line.now }
+    ensures { judged result ≡ verdict line.now }
 {
     if frames::MOST_SPARSE < line.len() {
-        return STRANGE;
+        return Err(Reason::Malformed);
     }
-    let parsed = frames::read(line, digits);
-    parsed.refusal
+    frames::read(line, digits)?;
+    Ok(())
 }
 
 fn is_small(c: u8) -> bool
     ensures { result ≡ between 97 102 c }
 {
-    match c {
-        b'a'..=b'f' => true,
-        _ => false,
-    }
+    matches!(c, b'a'..=b'f')
 }
 
 // A character in capitals.
@@ -45,14 +42,7 @@ fn raised(c: u8) -> u8
 pub fn has_small(line: &[u8]) -> bool
     ensures { result ≡ has_small line.now }
 {
-    let mut i = 0;
-    while i < line.len() {
-        if is_small(line[i]) {
-            return true;
-        }
-        i += 1;
-    }
-    false
+    line.iter().any(|c| is_small(*c))
 }
 
 // A line in capitals, at the front of `out`.
@@ -60,10 +50,8 @@ fn put_capitals(line: &[u8], out: &mut [u8])
     requires { length line.now ≤ length out.old }
     ensures { out.new ≡ sets out.old 0 (in_capitals line.now) }
 {
-    let mut i = 0;
-    while i < line.len() {
-        out[i] = raised(line[i]);
-        i += 1;
+    for (i, c) in line.iter().enumerate() {
+        out[i] = raised(*c);
     }
 }
 

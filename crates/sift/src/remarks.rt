@@ -1,9 +1,11 @@
 // What is said of a line: a line of text, the line's number first.
 ghost use Rattle.std.specs.Prelude.{[], ◌∷◌, ◌+◌, ◌≤◌, length};
 ghost use Rattle.meaning.specs.Salvage.{decimal, dropped, case_only, told};
+ghost use Rattle.refusals.specs.Coded.{coded};
 ghost use Rattle.sift.specs.Puts.{most_remark, Puts};
 
 use itoa::Buffer;
+use refusals::Reason;
 
 // The most characters of a number.
 const MOST_DECIMAL: usize = 20;
@@ -16,12 +18,9 @@ fn put(text: &[u8], at: usize, out: &mut [u8]) -> usize
     requires { at + length text.now ≤ length out.old }
     ensures { Puts text.now at out.old result out.new }
 {
-    let mut i = 0;
-    while i < text.len() {
-        out[at + i] = text[i];
-        i += 1;
-    }
-    at + text.len()
+    let end = at + text.len();
+    out[at..end].copy_from_slice(text);
+    end
 }
 
 fn put_decimal(n: u64, at: usize, out: &mut [u8]) -> usize
@@ -34,14 +33,14 @@ fn put_decimal(n: u64, at: usize, out: &mut [u8]) -> usize
     put(text.as_bytes(), at, out)
 }
 
-// That a line is dropped, and its refusal.
-pub fn dropped(number: u64, refusal: u8, out: &mut [u8]) -> usize
+// That a line is dropped, and the number of its refusal.
+pub fn dropped(number: u64, reason: Reason, out: &mut [u8]) -> usize
     requires { most_remark ≤ length out.old }
-    ensures { Puts (told ((number, dropped refusal) ∷ [])) 0 out.old result out.new }
+    ensures { Puts (told ((number, dropped (coded reason)) ∷ [])) 0 out.old result out.new }
 {
     let at = put_decimal(number, 0, out);
     let at = put(b" dropped ", at, out);
-    let at = put_decimal(refusal as u64, at, out);
+    let at = put_decimal(u64::from(u8::from(reason)), at, out);
     put(b"\n", at, out)
 }
 

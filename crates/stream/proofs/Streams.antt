@@ -3,7 +3,7 @@
 use mathlib.Core.Path.{◌≡◌, refl, sym, ap, ◌∙◌}
 use mathlib.Core.Logic.{◌≢◌}
 use mathlib.Core.List.{List, [], ◌∷◌, ◌++◌, append_assoc, append-nil}
-use Prim.Native.Nat.{ℕ, zero, suc, ◌+◌, ◌-◌, ◌<◌, ◌≤◌}
+use Prim.Native.Nat.{ℕ, ◌+◌, ◌-◌, ◌<◌, ◌≤◌}
 use native.Mathlib.Omega.{arith}
 use lib.ListN.{length, take, drop, length-take, length-drop, length-append}
 use lib.Seq.{take-add, take-nil, length-take-le, drop-drop}
@@ -109,8 +109,3 @@ module _ (R : List ℕ → List ℕ → Type 0) where
   pub last_some : (p line : List ℕ) (kept : ℕ) → Keeps p line kept → kept ≢ 0 → (out : List ℕ) → R p out → Each R (last p) out
   last_some [] line kept k n out a = absurd (n (k.count_is ∙ ap length (take-nil (length line))))
   last_some (c ∷ p) line kept k n out a = each_one (c ∷ p) out a
-
--- where something is answered, something is used
-pub moved : (used filled : ℕ) → (used ≡ 0 → filled ≡ 0) → 0 < filled → 0 < used
-moved zero filled s h = absurd (omega (arith, s refl))
-moved (suc used) filled s h = omega arith

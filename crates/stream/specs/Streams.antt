@@ -5,6 +5,7 @@ use Rattle.meaning.specs.Lines.{Each}
 use Rattle.meaning.specs.Requests.{most_characters}
 use Rattle.cutter.specs.Cuts.{ended, begun, last, Keeps}
 use Rattle.stream.specs.declared.Fed.{Fed}
+use Rattle.stream.specs.declared.Room.{Room}
 
 -- ---- what is taken in
 -- a piece has been taken in after p: the lines that ended are answered at the front of out, whose rest is as lent, and the one that has not is kept
@@ -15,6 +16,17 @@ pub record Taken (R : List ℕ → List ℕ → Type 0) (p piece line : List ℕ
   pub rest : drop filled out ≡ drop filled out₀
 
 -- ---- the functions
+-- the memory that is lent is the same, and as long as it was
+pub record Same (r₀ r : Room) : Type 0 where
+  pub bytes_same : r.bytes.ghost_name ≡ r₀.bytes.ghost_name
+  pub digits_same : r.digits.ghost_name ≡ r₀.digits.ghost_name
+  pub marks_same : r.marks.ghost_name ≡ r₀.marks.ghost_name
+  pub out_same : r.out.ghost_name ≡ r₀.out.ghost_name
+  pub bytes_length : length r.bytes.now ≡ length r₀.bytes.now
+  pub digits_length : length r.digits.now ≡ length r₀.digits.now
+  pub marks_length : length r.marks.now ≡ length r₀.marks.now
+  pub out_length : length r.out.now ≡ length r₀.out.now
+
 -- a part of a piece: whatever had been taken in before, what is used of the part is taken in after it
 pub record Stepped (R : List ℕ → List ℕ → Type 0) (piece line₀ : List ℕ) (kept₀ : ℕ) (out₀ : List ℕ) (filled₀ : ℕ) (f : Fed) (line out : List ℕ) : Type 0 where
   pub used_within : f.used ≤ length piece

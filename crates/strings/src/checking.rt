@@ -1,89 +1,60 @@
 // Calls 02 and 03: a set, scalar length 1, scalar, digits. They answer refusal 1, place 2, weight 2, top 2.
-ghost use Rattle.std.specs.Prelude.{◌≡◌, ◌≤◌, length};
-ghost use Rattle.asking.specs.Room.{most_answer, Answered};
+ghost use Rattle.std.specs.Prelude.{IfSome};
+ghost use Rattle.asking.specs.Room.{Answered};
 
-use asking::{asked, lent, print};
+use asking::asked::{self, Frame, SetForm};
+use asking::lent;
+use asking::print::{self, Printer};
+use digits::{Accepted, Tally};
+use refusals::Refusal;
 use scalar::Order;
 use width::DigitSet;
 
-// The bytes between the set and the scalar.
-const HEAD: usize = 1;
-
-// The call, and its answer. The digits that are given are put into memory first.
-fn made(
-    nonadjacent: bool,
-    set: DigitSet,
+// The answer to what follows the call's byte, and where it ends.
+fn judged<F: Fn(DigitSet, Order, &[u8], &[i8]) -> Result<Accepted, Refusal>>(
+    check: F,
+    form: SetForm,
     order: Order,
-    scalar: &[u8],
-    given: &[u8],
-    digits: &mut [i8],
-    out: &mut [u8],
-) -> usize
-    requires given_len { length given.now ≡ length digits.old }
-    requires in_bounds { 14 ≤ length out.old }
-    ensures { result ≡ 14 }
+    mut frame: Frame,
+    out: &mut [u8; print::MOST],
+) -> Option<usize>
+    requires { F.IsAlwaysCallable check }
+    ensures { IfSome result (λ end. Answered end) }
 {
-    asked::digits(given, digits);
-    let verdict = if nonadjacent {
-        judge::check_nonadjacent(set, order, scalar, digits)
-    } else {
-        judge::check(set, order, scalar, digits)
-    };
-    print::fields(
-        verdict.refusal,
-        verdict.place,
-        verdict.weight,
-        verdict.top,
-        out,
-    )
+    let set = frame.set(form)?;
+    let bytes = frame.short_count(asked::BYTES)?;
+    let scalar = frame.bytes(bytes)?;
+    let given = frame.rest(lent::PLACES)?;
+    let digits = asked::digits(given);
+    let tally = Tally::from(check(set, order, scalar, &digits[..given.len()]));
+    let mut printer = Printer::over(out);
+    printer.number(tally.refusal);
+    printer.number(tally.place);
+    printer.number(tally.weight);
+    printer.number(tally.top);
+    Some(printer.end())
 }
 
-// The answer to what follows the set, and where it ends: nothing where the bytes are no such frame.
-fn asked_for(nonadjacent: bool, set: DigitSet, order: Order, rest: &[u8], out: &mut [u8]) -> usize
-    requires { most_answer ≤ length out.old }
-    ensures { Answered result }
+// Any string that is worth the scalar.
+pub fn answer(
+    form: SetForm,
+    order: Order,
+    frame: Frame,
+    out: &mut [u8; print::MOST],
+) -> Option<usize>
+    ensures { IfSome result (λ end. Answered end) }
 {
-    if rest.len() < HEAD {
-        return 0;
-    }
-    let bytes = rest[0] as usize;
-    if asked::BYTES < bytes {
-        return 0;
-    }
-    let end = HEAD + bytes;
-    if rest.len() < end {
-        return 0;
-    }
-    let places = rest.len() - end;
-    if asked::PLACES < places {
-        return 0;
-    }
-    let mut digits = lent::digits();
-    made(
-        nonadjacent,
-        set,
-        order,
-        &rest[HEAD..end],
-        &rest[end..],
-        &mut digits[..places],
-        out,
-    )
+    judged(judge::check, form, order, frame, out)
 }
 
-// The answer to a frame: its set has a largest digit of its own or not.
-pub fn answer(nonadjacent: bool, between: bool, order: Order, frame: &[u8], out: &mut [u8]) -> usize
-    requires { most_answer ≤ length out.old }
-    ensures { Answered result }
+// One with no two digits too near.
+pub fn answer_nonadjacent(
+    form: SetForm,
+    order: Order,
+    frame: Frame,
+    out: &mut [u8; print::MOST],
+) -> Option<usize>
+    ensures { IfSome result (λ end. Answered end) }
 {
-    let end = asked::after(between, 1);
-    if frame.len() < end {
-        return 0;
-    }
-    asked_for(
-        nonadjacent,
-        asked::set(between, frame, 1),
-        order,
-        &frame[end..],
-        out,
-    )
+    judged(judge::check_nonadjacent, form, order, frame, out)
 }

@@ -1,21 +1,21 @@
 // Call 07: width 1, number 4, and nothing after them. It answers refusal 1, weight 1.
-ghost use Rattle.std.specs.Prelude.{◌≤◌, length};
-ghost use Rattle.asking.specs.Room.{most_answer, Answered};
+ghost use Rattle.std.specs.Prelude.{IfSome};
+ghost use Rattle.asking.specs.Room.{Answered};
 
-use asking::{asked, print};
+use asking::asked::Frame;
+use asking::print::{self, Printer};
+use search::Searched;
 
-// The bytes of the whole frame, with the call's own.
-const ALL: usize = 6;
-
-// The answer to a frame, and where it ends: nothing where the bytes are no such frame.
-pub fn answer(frame: &[u8], out: &mut [u8]) -> usize
-    requires { most_answer ≤ length out.old }
-    ensures { Answered result }
+// The answer to what follows the call's byte, and where it ends.
+pub fn answer(mut frame: Frame, out: &mut [u8; print::MOST]) -> Option<usize>
+    ensures { IfSome result (λ end. Answered end) }
 {
-    if frame.len() != ALL {
-        return 0;
-    }
-    let searched = search::search(asked::four(frame, 2), frame[1]);
-    let at = print::number(searched.refusal as u64, 1, 0, out);
-    print::number(searched.weight as u64, 1, at, out)
+    let width = frame.byte()?;
+    let number = frame.four()?;
+    frame.rest(0)?;
+    let searched = Searched::from(search::search(number, width));
+    let mut printer = Printer::over(out);
+    printer.number(searched.refusal);
+    printer.number(searched.weight);
+    Some(printer.end())
 }

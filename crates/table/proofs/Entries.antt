@@ -1,21 +1,26 @@
 -- The rule of the window table, shown for the whole table at once: one test, computed over all of its entries, and one law that gives the rule at each of them.
 -- Assumes nothing.
 use mathlib.Core.Path.{◌≡◌, ap, ◌∙◌}
-use mathlib.Core.Bool.{Bool, false}
+use mathlib.Core.Bool.{Bool, ◌&&◌}
 use mathlib.Core.List.{List}
 use Prim.Native.Nat.{ℕ, ◌+◌, ◌-◌, ◌*◌, ◌^◌, ◌≤◌, ◌<◌}
 use native.Mathlib.Nat.{pow-succ'}
 use native.Mathlib.Omega.{arith}
 use lib.Count.{count_leading_zeros, leading_unique}
-use lib.Dec.{T, eqb, eqb→eq}
-use lib.IntN.{ℤ, pos, negsuc}
+use lib.Dec.{T}
+use lib.IntN.{pos}
 use lib.ListN.{get_or}
 use lib.Pow.{pow_mono}
+use Rattle.std.specs.Ordering.{int_eq}
+use Rattle.std.proofs.lemmas.Bool.Decides.{Decides-int_eq}
+use denote.Floats.{is_true}
+use Rattle.laws.proofs.Choices.{and_both}
 use Rattle.laws.proofs.Tables.{passes, at}
 use Rattle.meaning.specs.Digits.{most_width}
 use Rattle.meaning.specs.Windows.{table_length, table_start, entry_unit, entry_twos}
 use Rattle.width.specs.Widths.{Wide}
-use Rattle.table.specs.Tables.{width_of, window_of, unit_of, twos_of, Table}
+use Rattle.table.specs.declared.Window.{Window}
+use Rattle.table.specs.Tables.{width_of, window_of, unit_of, twos_of, Read}
 
 -- ---- the width and the window of an entry
 -- where a width's entries lie
@@ -54,24 +59,13 @@ module _ (w s : ℕ) (h : Wide w) (l : s < 2 ^ (w + 1)) where
   twos_of_is = ap (λ v. pos (entry_twos v (window_of (table_start w + s)))) width_of_is ∙ ap (λ v. pos (entry_twos w v)) window_of_is
 
 -- ---- the rule
--- equal integers
-abbrev pub same : ℤ → ℤ → Bool
-same (pos a) (pos b) = eqb a b
-same (pos a) (negsuc b) = false
-same (negsuc a) (pos b) = false
-same (negsuc a) (negsuc b) = eqb a b
+-- x gives u and k of entry e
+abbrev pub right : ℕ → Window → Bool
+right e x = int_eq x.unit (unit_of e) && int_eq (pos x.twos) (twos_of e)
 
--- the test tells so
-same_is : (a b : ℤ) → T (same a b) → a ≡ b
-same_is (pos a) (pos b) t = ap pos (eqb→eq a b t)
-same_is (pos a) (negsuc b) t = absurd t
-same_is (negsuc a) (pos b) t = absurd t
-same_is (negsuc a) (negsuc b) t = ap negsuc (eqb→eq a b t)
-
--- entry e gives f of e
-abbrev pub right : (ℕ → ℤ) → ℕ → ℤ → Bool
-right f e z = same z (f e)
-
--- so a list at whose entries the test passes gives f at every entry
-pub table : (f : ℕ → ℤ) (entries : List ℤ) → T (passes (right f) table_length 0 entries) → Table f entries
-table f entries t = record { entries_are = λ e h. same_is (get_or entries e (pos 0)) (f e) (at (right f) table_length entries t (pos 0) e h) }
+-- so a list at whose entries the test passes gives them at every entry
+pub table : (xs : List Window) → T (passes right table_length 0 xs) → (a : Window) (e : ℕ) → e < table_length → Read e (get_or xs e a)
+table xs t a e h =
+    let x = get_or xs e a in
+    let (u, k) = and_both (int_eq x.unit (unit_of e)) (int_eq (pos x.twos) (twos_of e)) (at right table_length xs t a e h) in
+    record { unit_is = (Decides-int_eq x.unit (unit_of e)).0 (is_true _ u); twos_is = (Decides-int_eq (pos x.twos) (twos_of e)).0 (is_true _ k) }

@@ -1,6 +1,6 @@
 -- The rules of the call: what it answers where one of them is the first, and where none applies; and what an accepted string is.
 -- Assumes nothing.
-use mathlib.Core.Path.{◌≡◌, sym, ap, ◌∙◌, subst}
+use mathlib.Core.Path.{◌≡◌, refl, sym, ap, ◌∙◌}
 use mathlib.Core.List.{List, ◌++◌}
 use Prim.Native.Nat.{ℕ, ◌+◌, ◌-◌, ◌≤◌}
 use native.Mathlib.Omega.{arith}
@@ -16,48 +16,58 @@ use Rattle.meaning.specs.Refusals.{Rule}
 use Rattle.meaning.specs.Taping as Taping
 use Rattle.meaning.specs.Taping.{tape_of, tape_rules, Tape}
 use Rattle.meaning.specs.Sets.{Pair}
-use Rattle.width.proofs.Widths.{set_fine, pair_of}
+use Rattle.width.proofs.Widths.{set_fine, set_refused, pair_of}
 use Rattle.digits.specs.declared.Count.{Count}
 use Rattle.digits.specs.Scans.{Whole}
-use Rattle.tape.specs.declared.Taped.{Taped}
-use Rattle.tape.specs.Answers.{taped}
+use Rattle.std.specs.Prelude.{Result, Ok, Err}
+use Rattle.std.specs.Result.{IsErrAnd}
+use Rattle.refusals.specs.declared.Reason.{Reason}
+use Rattle.refusals.specs.declared.Refusal.{Refusal}
+use Rattle.refusals.specs.Coded.{coded, At}
+use Rattle.width.specs.Widths.{Tried}
+use Rattle.tape.specs.declared.Written.{Written}
+use Rattle.tape.specs.Answers.{answered}
 use Rattle.walk.proofs.Lengths.{tape_length}
+
+-- the words that a scan's counts ask for
+pub needed_is : {m : ℕ} {ds : List ℤ} {c : Count} → Whole m ds c → (c.top - 1) + c.weight ≡ length (tape_of ds)
+needed_is {m} {ds} whole = omega (arith, tape_length ds, whole.top_is, whole.weight_is)
 
 module _ (w m : ℕ) (ds : List ℤ) (words₀ : List ℕ) where
   abbrev rules : List Rule
   rules = tape_rules w m ds (length words₀)
 
   -- the rule at index k is the first that applies: it is answered, and the buffer is as lent
-  pub refuses : (k p : ℕ) {t : Taped} → t ≡ record { refusal = number_at rules k; place = p; words = 0; doublings = 0; additions = 0 } → Until rules k p → Tape w m ds words₀ (taped t) words₀
-  refuses k p e u =
+  pub refuses : (k p : ℕ) (r : Refusal) → coded r.reason ≡ number_at rules k → r.place ≡ p → Until rules k p → Tape w m ds words₀ (answered (Err r)) words₀
+  refuses k p r reason place u =
       let n = number_some rules tt k p u in
-      let r = number_at rules k in
-      subst (λ t. Tape w m ds words₀ (taped t) words₀) (sym e)
+      let c = number_at rules k in
+      rw (reason, place)
       (record {
         first = first_at rules k p u;
-        count_is = sym (granted_none r (length (tape_of ds)) n);
-        doublings_are = sym (granted_none r (top ds - 1) n);
-        additions_are = sym (granted_none r (weight ds - 1) n);
-        words_are = sym (kept_lent r (tape_of ds ++ drop (length (tape_of ds)) words₀) words₀ n);
+        count_is = sym (granted_none c (length (tape_of ds)) n);
+        doublings_are = sym (granted_none c (top ds - 1) n);
+        additions_are = sym (granted_none c (weight ds - 1) n);
+        words_are = sym (kept_lent c (tape_of ds ++ drop (length (tape_of ds)) words₀) words₀ n);
       })
 
-  module _ (pair : Pair w m) (short : length ds ≤ most_places) (c : Count) (whole : Whole m ds c) where
-    -- the words that the counts ask for
-    pub needed_is : (c.top - 1) + c.weight ≡ length (tape_of ds)
-    needed_is = omega (arith, tape_length ds, whole.top_is, whole.weight_is)
+  -- so is what makes no set
+  pub refuses_set : (e : Reason) (r : Result Written Refusal) → Tried w m (Err e) → IsErrAnd r (At 0 e) → Tape w m ds words₀ (answered r) words₀
+  refuses_set e (Ok t) none h = absurd h
+  refuses_set e (Err r) none (reason, place) = let (k, n, u) = set_refused rules e refl none in refuses k 0 r (ap coded reason ∙ n) place u
 
+  module _ (pair : Pair w m) (short : length ds ≤ most_places) {c : Count} (whole : Whole m ds c) where
     -- no rule applies: the words stand in the buffer
-    pub accepts : {t : Taped} {words : List ℕ} → length (tape_of ds) ≤ length words₀ → t.refusal ≡ 0 → t.place ≡ 0 → t.words ≡ length (tape_of ds) → t.doublings ≡ c.top - 1 → t.additions ≡ c.weight - 1
-        → words ≡ tape_of ds ++ drop (length (tape_of ds)) words₀ → Tape w m ds words₀ (taped t) words
-    accepts {t} h r p n d a e =
-        rw (r, p)
-        (record {
+    pub accepts : {t : Written} {words : List ℕ} → length (tape_of ds) ≤ length words₀ → t.words ≡ length (tape_of ds) → t.doublings ≡ c.top - 1 → t.additions ≡ c.weight - 1
+        → words ≡ tape_of ds ++ drop (length (tape_of ds)) words₀ → Tape w m ds words₀ (answered (Ok t)) words
+    accepts {t} h n d a e =
+        record {
           first = first_none (tape_rules w m ds (length words₀)) ((set_fine pair).0, ((set_fine pair).1, ((λ l. omega arith), (whole.sound, ((λ l. omega arith), tt)))));
           count_is = n;
           doublings_are = d ∙ ap (λ k. k - 1) whole.top_is;
           additions_are = a ∙ ap (λ k. k - 1) whole.weight_is;
           words_are = e;
-        })
+        }
 
 -- ---- what an accepted string is
 pub record Accepted (w m : ℕ) (ds : List ℤ) (words₀ : List ℕ) : Type 0 where

@@ -21,10 +21,6 @@ use Rattle.walk.proofs.Lengths.{length_moves, tape_drop, at_top, tape_topless}
 pub lowest_zero : {d : ℤ} (at : ℕ) (words : List ℕ) {x : ℕ} → d ≡ pos 0 → x ≡ word_of double → set words at x ≡ sets words at (word_of double ∷ moves add d)
 lowest_zero at words z e = ap (set words at) e ∙ ap (λ ys. sets words at (word_of double ∷ ys)) (sym (moves_none add z))
 
--- another digit a double and an addition
-pub lowest_digit : (d : ℤ) (at : ℕ) (words : List ℕ) {x y : ℕ} → x ≡ word_of double → moves add d ≡ y ∷ [] → set (set words at x) (at + 1) y ≡ sets words at (word_of double ∷ moves add d)
-lowest_digit d at words e f = rw (e, add-one) (ap (λ ys. sets words at (word_of double ∷ ys)) (sym f))
-
 -- ---- a place above it: what is then in front of the next index, and behind it
 module _ {d : ℤ} {at : ℕ} {words₀ : List ℕ} {next : ℕ} {words : List ℕ} (h : Lowered d at words₀ next words) (room : at + 1 < length words₀) where
   lowered_length : length words ≡ length words₀

@@ -1,14 +1,9 @@
 -- What one place of a string adds to the words.
 -- Assumes nothing.
-use Rattle.std.specs.Prelude.{◌≡◌, ◌≢◌, List, [], ◌∷◌, ℕ, ◌+◌, ◌*◌, ◌<◌, ◌≤◌, ℤ, pos, set}
+use Rattle.std.specs.Prelude.{◌≡◌, ◌≢◌, List, [], ◌∷◌, ℕ, ◌+◌, ℤ, pos, set}
 use Rattle.meaning.specs.Digits.{nonzero}
 use Rattle.meaning.specs.Words.{double, add, word_of}
 use Rattle.meaning.specs.Taping.{moves}
-
--- t is twice the word of an addition, by the digit raised by 128 to r
-pub record Twice (r t : ℕ) : Type 0 where
-  pub minus : r < 128 → t + r ≡ 2 * (4 * 4096) + 127
-  pub plus : 128 ≤ r → t + 129 ≡ 2 * (3 * 4096) + r
 
 -- a double is stored at index `at` and a word after it, which is the digit's addition where it has one; `next` is the index after them
 pub record Lowered (d : ℤ) (at : ℕ) (words₀ : List ℕ) (next : ℕ) (words : List ℕ) : Type 0 where

@@ -1,85 +1,40 @@
 // Call 08: a set, powers lent 2, inverse powers lent 2, modulus 4, base 4, inverse 4, tape words. It answers as call 05, then the powers and the inverse powers lent.
-ghost use Rattle.std.specs.Prelude.{◌≡◌, ◌+◌, ◌*◌, ◌≤◌, length};
-ghost use Rattle.asking.specs.Room.{most_answer, Answered};
+ghost use Rattle.std.specs.Prelude.{IfSome};
+ghost use Rattle.asking.specs.Room.{Answered};
 
 use crate::running;
-use asking::{asked, lent};
-use width::DigitSet;
+use asking::asked::{self, Frame, SetForm};
+use asking::lent;
+use asking::print::{self, Printer};
 
-// The bytes between the set and the words.
-const HEAD: usize = 16;
-
-// The call, and its answer. The words that are given are put into memory first.
-fn made(
-    set: DigitSet,
-    given: &[u8],
-    tape: &mut [u16],
-    modulus: u32,
-    base: u32,
-    inverse: u32,
-    powers: &mut [u32],
-    inverses: &mut [u32],
-    out: &mut [u8],
-) -> usize
-    requires given_len { length given.now ≡ 2 * length tape.old }
-    requires inverses_in_bounds { 30 + 8 * length powers.old + 8 * length inverses.old ≤ length out.old }
-    ensures { result ≡ 30 + 8 * length powers.old + 8 * length inverses.old }
+// The answer to what follows the call's byte, and where it ends.
+pub fn answer(form: SetForm, mut frame: Frame, out: &mut [u8; print::MOST]) -> Option<usize>
+    ensures { IfSome result (λ end. Answered end) }
 {
-    asked::words(given, tape);
-    let ran = powers::run_powers(set, tape, modulus, base, inverse, powers, inverses);
-    let at = running::put_ran(ran, out);
-    let at = running::put_multiples(powers, at, out);
-    running::put_multiples(inverses, at, out)
-}
-
-// The answer to what follows the set, and where it ends: nothing where the bytes are no such frame.
-fn asked_for(set: DigitSet, rest: &[u8], out: &mut [u8]) -> usize
-    requires { most_answer ≤ length out.old }
-    ensures { Answered result }
-{
-    if rest.len() < HEAD {
-        return 0;
-    }
-    let count = asked::two(rest, 0) as usize;
-    if asked::MULTIPLES < count {
-        return 0;
-    }
-    let others = asked::two(rest, 2) as usize;
-    if asked::MULTIPLES < others {
-        return 0;
-    }
-    let bytes = rest.len() - HEAD;
-    if bytes % 2 == 1 {
-        return 0;
-    }
-    let given = bytes / 2;
-    if asked::WORDS < given {
-        return 0;
-    }
-    let mut words = lent::words();
-    let mut powers = lent::multiples();
-    let mut inverses = lent::inverses();
-    made(
+    let set = frame.set(form)?;
+    let room = frame.count(lent::MULTIPLES)?;
+    let others = frame.count(lent::MULTIPLES)?;
+    let modulus = frame.four()?;
+    let base = frame.four()?;
+    let inverse = frame.four()?;
+    let given = frame.pairs(lent::WORDS)?;
+    let tape = asked::words(given);
+    let mut powers = [lent::MULTIPLE; lent::MULTIPLES];
+    let powers = &mut powers[..room];
+    let mut inverses = [lent::INVERSE; lent::MULTIPLES];
+    let inverses = &mut inverses[..others];
+    let ran = powers::run_powers(
         set,
-        &rest[HEAD..],
-        &mut words[..given],
-        asked::four(rest, 4),
-        asked::four(rest, 8),
-        asked::four(rest, 12),
-        &mut powers[..count],
-        &mut inverses[..others],
-        out,
-    )
-}
-
-// The answer to a frame: its set has a largest digit of its own or not.
-pub fn answer(between: bool, frame: &[u8], out: &mut [u8]) -> usize
-    requires { most_answer ≤ length out.old }
-    ensures { Answered result }
-{
-    let end = asked::after(between, 1);
-    if frame.len() < end {
-        return 0;
-    }
-    asked_for(asked::set(between, frame, 1), &frame[end..], out)
+        &tape[..given.len()],
+        modulus,
+        base,
+        inverse,
+        powers,
+        inverses,
+    );
+    let mut printer = Printer::over(out);
+    running::put(ran, &mut printer);
+    printer.numbers(powers);
+    printer.numbers(inverses);
+    Some(printer.end())
 }

@@ -1,8 +1,9 @@
 // The answer to a line: its bytes are read, the call that they name is made, and what it answers is printed.
-ghost use Rattle.std.specs.Prelude.{◌≤◌, length};
+ghost use Rattle.std.specs.Prelude.{◌≤◌, IfSome};
 ghost use Rattle.asking.specs.Room.{most_answer, Answered};
 
-use asking::print;
+use asking::asked::{Frame, SetForm};
+use asking::print::{self, Printer};
 use scalar::Order;
 use strings::{
     bounding, checking, choosing, framing, parsing, reading, recoding, searching, weighing,
@@ -10,75 +11,65 @@ use strings::{
 use tapes::{joining, jointly, powering, running, taping, translating};
 
 // What a line that is no frame is answered.
-const NO_FRAME: u64 = 0xFF;
+const NO_FRAME: u8 = 0xFF;
 
-// The answer of the call that a frame names, or nothing where it names none. With 80 added, the frame's scalars are lowest byte first; with 40
-// added, the largest digit of its set follows the width.
-fn call(frame: &[u8], out: &mut [u8]) -> usize
-    requires { most_answer ≤ length out.old }
-    ensures { Answered result }
+// What is added to a call's byte where the frame's scalars are lowest byte first, and where the largest digit of its set follows the width.
+const LOWEST_FIRST: u8 = 0x80;
+
+const LARGEST: u8 = 0x40;
+
+// The answer of the call that a frame names, where it names one.
+fn call(bytes: &[u8], out: &mut [u8; print::MOST]) -> Option<usize>
+    ensures { IfSome result (λ end. Answered end) }
 {
-    if frame.len() == 0 {
-        return 0;
-    }
-    match frame[0] {
-        0x01 => recoding::answer(false, Order::HighestFirst, frame, out),
-        0x02 => checking::answer(false, false, Order::HighestFirst, frame, out),
-        0x03 => checking::answer(true, false, Order::HighestFirst, frame, out),
-        0x04 => taping::answer(false, frame, out),
-        0x05 => running::answer(false, false, frame, out),
-        0x06 => reading::answer(Order::HighestFirst, frame, out),
-        0x07 => searching::answer(frame, out),
-        0x08 => powering::answer(false, frame, out),
-        0x09 => joining::answer(Order::HighestFirst, frame, out),
-        0x0A => jointly::answer(frame, out),
-        0x0B => bounding::answer(false, Order::HighestFirst, frame, out),
-        0x0C => translating::answer(false, frame, out),
-        0x0D => running::answer(true, false, frame, out),
-        0x0E => framing::answer(frame, out),
-        0x0F => parsing::answer(frame, out),
-        0x10 => choosing::answer(Order::HighestFirst, frame, out),
-        0x11 => weighing::answer(Order::HighestFirst, frame, out),
-        0x41 => recoding::answer(true, Order::HighestFirst, frame, out),
-        0x42 => checking::answer(false, true, Order::HighestFirst, frame, out),
-        0x43 => checking::answer(true, true, Order::HighestFirst, frame, out),
-        0x44 => taping::answer(true, frame, out),
-        0x45 => running::answer(false, true, frame, out),
-        0x48 => powering::answer(true, frame, out),
-        0x4B => bounding::answer(true, Order::HighestFirst, frame, out),
-        0x4C => translating::answer(true, frame, out),
-        0x4D => running::answer(true, true, frame, out),
-        0x81 => recoding::answer(false, Order::LowestFirst, frame, out),
-        0x82 => checking::answer(false, false, Order::LowestFirst, frame, out),
-        0x83 => checking::answer(true, false, Order::LowestFirst, frame, out),
-        0x86 => reading::answer(Order::LowestFirst, frame, out),
-        0x89 => joining::answer(Order::LowestFirst, frame, out),
-        0x8B => bounding::answer(false, Order::LowestFirst, frame, out),
-        0x90 => choosing::answer(Order::LowestFirst, frame, out),
-        0x91 => weighing::answer(Order::LowestFirst, frame, out),
-        0xC1 => recoding::answer(true, Order::LowestFirst, frame, out),
-        0xC2 => checking::answer(false, true, Order::LowestFirst, frame, out),
-        0xC3 => checking::answer(true, true, Order::LowestFirst, frame, out),
-        0xCB => bounding::answer(true, Order::LowestFirst, frame, out),
-        _ => 0,
+    let mut frame = Frame::over(bytes);
+    let byte = frame.byte()?;
+    let order = if byte & LOWEST_FIRST == 0 {
+        Order::HighestFirst
+    } else {
+        Order::LowestFirst
+    };
+    let form = if byte & LARGEST == 0 {
+        SetForm::Whole
+    } else {
+        SetForm::Between
+    };
+    match (byte & !(LOWEST_FIRST | LARGEST), order, form) {
+        (0x01, _, _) => recoding::answer(form, order, frame, out),
+        (0x02, _, _) => checking::answer(form, order, frame, out),
+        (0x03, _, _) => checking::answer_nonadjacent(form, order, frame, out),
+        (0x04, Order::HighestFirst, _) => taping::answer(form, frame, out),
+        (0x05, Order::HighestFirst, _) => running::answer(form, frame, out),
+        (0x06, _, SetForm::Whole) => reading::answer(order, frame, out),
+        (0x07, Order::HighestFirst, SetForm::Whole) => searching::answer(frame, out),
+        (0x08, Order::HighestFirst, _) => powering::answer(form, frame, out),
+        (0x09, _, SetForm::Whole) => joining::answer(order, frame, out),
+        (0x0A, Order::HighestFirst, SetForm::Whole) => jointly::answer(frame, out),
+        (0x0B, _, _) => bounding::answer(form, order, frame, out),
+        (0x0C, Order::HighestFirst, _) => translating::answer(form, frame, out),
+        (0x0D, Order::HighestFirst, _) => running::answer_second(form, frame, out),
+        (0x0E, Order::HighestFirst, SetForm::Whole) => framing::answer(frame, out),
+        (0x0F, Order::HighestFirst, SetForm::Whole) => parsing::answer(frame, out),
+        (0x10, _, SetForm::Whole) => choosing::answer(order, frame, out),
+        (0x11, _, SetForm::Whole) => weighing::answer(order, frame, out),
+        _ => None,
     }
 }
 
-// The same, and what is answered where nothing is.
-fn told(frame: &[u8], out: &mut [u8]) -> usize
-    requires { most_answer ≤ length out.old }
+// The answer to a frame, or what is answered where it is none.
+fn told(bytes: &[u8], out: &mut [u8; print::MOST]) -> usize
     ensures { Answered result }
 {
-    let end = call(frame, out);
-    if end == 0 {
-        return print::number(NO_FRAME, 1, 0, out);
+    if let Some(end) = call(bytes, out) {
+        return end;
     }
-    end
+    let mut printer = Printer::over(out);
+    printer.number(NO_FRAME);
+    printer.end()
 }
 
 // The answer to a line at the front of `out`, with its line feed, and how long it is. The line's bytes are put to `frame`.
-pub fn answer(line: &[u8], frame: &mut [u8], out: &mut [u8]) -> usize
-    requires { most_answer ≤ length out.old }
+pub fn answer(line: &[u8], frame: &mut [u8], out: &mut [u8; print::MOST]) -> usize
     ensures { result ≤ most_answer }
 {
     let count = hexadecimal::read_pairs(line, frame);

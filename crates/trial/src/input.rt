@@ -1,146 +1,81 @@
-// Standard input, line by line. A line may come in several reads; of one that has not ended the first characters are kept. A read or a write that fails is told on standard
+// Standard input, line by line. A line may come in several blocks; of one that has not ended the first characters are kept. A read or a write that fails is told on standard
 // error, and the program ends: it has no status of its own.
-ghost use Rattle.std.specs.Prelude.{◌≡◌, ◌≤◌, length, MatchResult};
-ghost use Rattle.asking.specs.Room.{most_answer};
-ghost use Rattle.trial.specs.Steps.{Moved};
+ghost use Rattle.std.specs.Prelude.{◌≡◌, ◌-◌, ◌^◌, ◌≤◌, length, ⊤};
 
 use crate::answers;
+use asking::{asked, print};
+use blocks::{Fault, Stream, Taker};
+use cutter::Cut;
 use std::io;
-use std::io::Read;
 
-// The most characters that are read at once.
-const BLOCK: usize = 65536;
+// Of a line one character more is kept than the longest frame has: a longer line is no frame as well.
+const KEPT: usize = 2 * asked::MOST + 1;
 
-// How many characters of a line are kept after a read, and whether there is more to read.
-#[derive(Clone, Copy)]
-struct Fed {
+// The line that has not ended, and how much of it is kept; what a line is read into, and its answer.
+#[derive(Drop)]
+struct Trial {
+    line: [u8; KEPT],
     kept: usize,
-    more: bool,
+    frame: [u8; asked::MOST],
+    out: [u8; print::MOST],
 }
 
-// How many characters of a piece are used, how many are kept of the line that has not ended, and whether the answer went out.
-#[derive(Clone, Copy)]
-struct Stepped {
-    used: usize,
-    kept: usize,
-    goes: bool,
+impl Trial {
+    // A line has ended: its answer is written out.
+    fn answer(&mut self, rt: &HostRuntime, kept: usize) -> Result<(), Fault>
+        requires { kept ≤ length self.old.line }
+        ensures { self.new.kept ≡ self.old.kept }
+    {
+        let count = answers::answer(&self.line[..kept], &mut self.frame, &mut self.out);
+        rt.write_all(&self.out[..count]).map_err(|error| Fault {
+            stream: Stream::Output,
+            error,
+        })
+    }
 }
 
-fn written(rt: &HostRuntime, bytes: &[u8]) -> bool {
-    match rt.write_all(bytes) {
-        Ok(()) => true,
-        Err(fault) => {
-            let _ = eprintln!(rt; "trial: standard output: {fault}");
-            false
+impl Taker for Trial {
+    ghost most = { 2 ^ 64 - 1 };
+
+    ghost ready = { λ _ s. s.kept ≤ length s.line };
+
+    ghost takes = { λ _ _ _. ⊤ };
+
+    fn pour(&mut self, rt: &HostRuntime, piece: &[u8]) -> Result<(), Fault> {
+        // A step goes on by as much as it takes.
+        let mut at = 0;
+        while at < piece.len() {
+            match cutter::next(&piece[at..], &mut self.line, self.kept) {
+                Cut::GoesOn { kept } => {
+                    self.kept = kept;
+                    return Ok(());
+                }
+                Cut::Ends { used, kept } => {
+                    at += used;
+                    self.kept = 0;
+                    self.answer(rt, kept)?;
+                }
+            }
         }
+        Ok(())
     }
-}
 
-// How much is kept of the last line, after a read that gave nothing. Where the read failed, a line that has not ended is no line.
-fn kept_at_end(rt: &HostRuntime, got: io::Result<usize>, kept: usize) -> usize
-    ensures within { result ≤ kept }
-    ensures kept_or_none { MatchResult got (λ _. result ≡ kept) (λ _. result ≡ 0) }
-{
-    match got {
-        Ok(_) => kept,
-        Err(fault) => {
-            let _ = eprintln!(rt; "trial: standard input: {fault}");
-            0
+    // A last line without a line feed counts if not empty.
+    fn end(&mut self, rt: &HostRuntime) -> Result<(), Fault> {
+        if self.kept == 0 {
+            return Ok(());
         }
+        self.answer(rt, self.kept)
     }
 }
 
-// A line has ended: its answer is written out.
-fn end(rt: &HostRuntime, line: &[u8], frame: &mut [u8], out: &mut [u8]) -> bool
-    requires { most_answer ≤ length out.old }
-{
-    let count = answers::answer(line, frame, out);
-    written(rt, &out[..count])
-}
-
-// The next line of a piece, as far as it stands there.
-fn step(
-    rt: &HostRuntime,
-    piece: &[u8],
-    line: &mut [u8],
-    frame: &mut [u8],
-    out: &mut [u8],
-    kept: usize,
-) -> Stepped
-    requires { (kept ≤ length line.old) × (most_answer ≤ length out.old) }
-    ensures { Moved piece.now line.old result }
-{
-    let cut = cutter::next(piece, line, kept);
-    if cut.ended {
-        let whole = cut.kept;
-        let goes = end(rt, &line[..whole], frame, out);
-        return Stepped {
-            used: cut.used,
-            kept: 0,
-            goes,
-        };
-    }
-    Stepped {
-        used: cut.used,
-        kept: cut.kept,
-        goes: true,
-    }
-}
-
-// The characters of a read.
-fn feed(
-    rt: &HostRuntime,
-    piece: &[u8],
-    line: &mut [u8],
-    frame: &mut [u8],
-    out: &mut [u8],
-    kept: usize,
-) -> Fed
-    requires { (kept ≤ length line.old) × (most_answer ≤ length out.old) }
-    ensures { result.kept ≤ length line.old }
-{
-    let mut used = 0;
-    let mut kept = kept;
-    let mut more = true;
-    while used < piece.len() && more {
-        let made = step(rt, &piece[used..], line, frame, out, kept);
-        used += made.used;
-        kept = made.kept;
-        more = made.goes;
-    }
-    Fed { kept, more }
-}
-
-// Reads once, and answers the lines that have ended.
-fn some(rt: &HostRuntime, line: &mut [u8], frame: &mut [u8], out: &mut [u8], kept: usize) -> Fed
-    requires { (kept ≤ length line.old) × (most_answer ≤ length out.old) }
-    ensures { result.kept ≤ length line.old }
-{
-    let mut piece = [0u8; BLOCK];
-    let got = rt.stdin().read(&mut piece);
-    match got {
-        Ok(count) if count > 0 => feed(rt, &piece[..count], line, frame, out, kept),
-        _ => Fed {
-            kept: kept_at_end(rt, got, kept),
-            more: false,
-        },
-    }
-}
-
-// A proved loop has to end, and nothing says that the input does: the loop counts its turns, up to a number that no run reaches. A last line
-// without a line feed counts if not empty.
-pub fn run(rt: &HostRuntime, line: &mut [u8], frame: &mut [u8], out: &mut [u8])
-    requires { most_answer ≤ length out.old }
-{
-    let mut kept = 0;
-    for _ in 0..u64::MAX {
-        let fed = some(rt, line, frame, out, kept);
-        kept = fed.kept;
-        if !fed.more {
-            break;
-        }
-    }
-    if 0 < kept {
-        end(rt, &line[..kept], frame, out);
-    }
+// Nothing is counted along the input, so it may have as many blocks as can be counted.
+pub fn run(rt: &HostRuntime) {
+    let mut trial = Trial {
+        line: [0; KEPT],
+        kept: 0,
+        frame: [0; asked::MOST],
+        out: [0; print::MOST],
+    };
+    blocks::run(rt, "trial", u64::MAX, &mut trial);
 }

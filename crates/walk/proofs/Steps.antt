@@ -48,15 +48,6 @@ module _ {A : Type 0} (C : Carrier A) (t : Table A) (x : ℕ) (a : A) (d k : ℕ
       go (inl l) = does bad e refl (counts_over x l) (omega arith) (omega arith)
       go (inr (z, l)) = absurd (omega (arith, n z))
 
--- what doubles, additions and the entries have, a step keeps: that a value is a residue, say
-pub taken_keeps : {A : Type 0} (C : Carrier A) (t : Table A) (P : A → Type 0) → ((a : A) → P (C.dbl a)) → ((a b : A) → P (C.add a b)) → (a : A) (x : Step) → P a
-    → ((s : Sign) (e : ℕ) → x ≡ load s e → P (t s e)) → P (taken C t a x)
-unfolding taken
-taken_keeps C t P dbl plus a double h l = dbl a
-taken_keeps C t P dbl plus a (load s e) h l = l s e refl
-taken_keeps C t P dbl plus a (add s e) h l = plus a (t s e)
-taken_keeps C t P dbl plus a bad h l = h
-
 -- ---- the words before index i
 doublings_snoc : (ws : List ℕ) (x : ℕ) → doublings (ws ++ (x ∷ [])) ≡ doublings ws + is_double x
 unfolding doublings

@@ -1,10 +1,10 @@
 -- A loop that stores the entries of a run one after the other: what it keeps, over any entries. Assumes nothing.
-use mathlib.Core.Path.{◌≡◌, sym, ap, ◌∙◌}
-use mathlib.Core.List.{List, ◌++◌}
-use Prim.Native.Nat.{ℕ, ◌+◌, ◌<◌, ◌≤◌}
+use mathlib.Core.Path.{◌≡◌, sym, ◌∙◌}
+use mathlib.Core.List.{List}
+use Prim.Native.Nat.{ℕ, ◌+◌, ◌<◌}
 use native.Mathlib.Omega.{arith}
-use lib.ListN.{length, set, drop}
-use Rattle.laws.proofs.Stores.{Filled, fill_none, fill_more, fill_all}
+use lib.ListN.{length, set}
+use Rattle.laws.proofs.Stores.{Filled, fill_none, fill_more}
 use Rattle.meaning.specs.Digits.{listed}
 use Rattle.forms.proofs.Listed.{listed_length, listed_first}
 
@@ -23,8 +23,3 @@ module _ (f : ℕ → ℕ) (count : ℕ) (d₀ : List ℕ) where
         filled = fill_more (listed f 0 count) d₀ d e x 0 h.filled (omega (arith, listed_length f 0 count)) n (h.next_is ∙ sym (listed_first f count e 0 l));
         next_is = p;
       }
-
-  pub stores_all : {d : List ℕ} {x e : ℕ} → Storing d x e → count ≤ e → d ≡ listed f 0 count ++ drop count d₀
-  stores_all {d} {x} {e} h l =
-      let k = listed_length f 0 count in
-      fill_all (listed f 0 count) d₀ d e h.filled (omega (arith, h.filled.within)) ∙ ap (λ j. listed f 0 count ++ drop j d₀) k

@@ -129,9 +129,6 @@ zeros_missing (suc d) (suc w) h s l = go (h % 2) refl (λ e. zeros_missing d w (
 pub negated : (a b : ℕ) → a ≤ b → neg_ℤ (pos (b - a)) ≡ pos a -ℤ pos b
 negated a b h = rw (minus (b - a), minus b) (simp diffs (omega ring))
 
-pub plain_sub : (a b : ℕ) → b ≤ a → pos (a - b) ≡ pos a -ℤ pos b
-plain_sub a b h = rw (minus b) (simp diffs (omega ring))
-
 module _ (w s less : ℕ) (lawful : Wide w) (l : s < 2 ^ (w + 1)) (d : leading w s ≢ second w s) (o : less ≤ s % 2) where
   abbrev half : ℕ
   half = (s + 1) / 2 - less

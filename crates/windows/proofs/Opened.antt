@@ -4,11 +4,10 @@ use mathlib.Core.Path.{◌≡◌, sym, ap, ◌∙◌}
 use mathlib.Core.Logic.{◌≢◌}
 use mathlib.Core.Bool.{Bool, true, false}
 use Prim.Native.Nat.{ℕ, suc, ◌+◌, ◌-◌, ◌*◌, ◌/◌, ◌%◌, ◌^◌, ◌≤◌, ◌<◌}
-use native.Mathlib.Nat.{mod-lt}
 use native.Mathlib.Omega.{arith}
 use lib.Dec.{eqb}
 use lib.IntN.{ℤ, pos, ◌-ℤ◌}
-use lib.Pow.{pow_pos, shl-shr, shr-shr, mod-mod-pow}
+use lib.Pow.{shl-shr, shr-shr, mod-mod-pow}
 use Rattle.meaning.specs.Scalars.{bit, below}
 use Rattle.meaning.specs.Windows.{window_bits, window_worth, leading, second, twos, odd_part, entry_unit, entry_twos}
 use Rattle.meaning.specs.Wmof.{window_at, spot}
@@ -21,10 +20,6 @@ use Rattle.table.specs.declared.Window.{Window}
 use Rattle.windows.specs.declared.opening.Place.{Place}
 use Rattle.windows.specs.Openings.{Opens, Placed}
 use Rattle.windows.specs.Parts.{Parts}
-
--- it has w + 1 bits
-pub opened_lt : (w N i : ℕ) → window_bits w N i < 2 ^ (w + 1)
-opened_lt w N i = mod-lt (N * 2 ^ w / 2 ^ i) (pow_pos (w + 1))
 
 -- bit i leads
 pub opened_leading : (w N i : ℕ) → leading w (window_bits w N i) ≡ bit N i

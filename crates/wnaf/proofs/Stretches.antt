@@ -1,8 +1,8 @@
 -- Form 2 by stretches: a number x that agrees with what remains in its low bits gives the zeros that are passed, the digit over them, and what remains after it.
 -- Assumes nothing.
-use mathlib.Core.Path.{◌≡◌, refl, sym, ap, ◌∙◌}
+use mathlib.Core.Path.{◌≡◌, refl, sym, ap, subst, ◌∙◌}
 use mathlib.Core.Logic.{◌≢◌}
-use mathlib.Core.List.{List, [], ◌∷◌}
+use mathlib.Core.List.{[], ◌∷◌}
 use Prim.Native.Nat.{ℕ, zero, suc, ◌+◌, ◌*◌, ◌-◌, ◌/◌, ◌%◌, ◌^◌, ◌<◌, ◌≤◌}
 use native.Mathlib.Omega.{arith}
 use native.Mathlib.Decide.{dec_lt, ℕ_discrete}
@@ -10,20 +10,21 @@ use native.Mathlib.Nat.{add-zero, div-one, mod-one, mod-lt, mod-eq_of_lt, mul-ad
 use native.Mathlib.Numerals.{add-one}
 use lib.Count.{count_trailing_zeros, under, trailing_of_zero}
 use lib.IntN.{ℤ, pos, nat_abs, ◌+ℤ◌, ◌-ℤ◌, ◌*ℤ◌}
-use lib.ListN.{length, get_or, set, replicate}
 use lib.Pow.{pow_pos, pow_mono, split, high, low, mod-pow-add, shr-shr, shr_le}
+use mir.Syntax.{w8}
+use mir.Val.{SFits, to_z, of_z}
+use mir.Facts.{to_z-of_z}
+use Rattle.laws.proofs.Signed.{plain_is, negated_fits}
 use Rattle.laws.proofs.Integers.{diffs, ring, minus, sub_zero_same}
 use Rattle.laws.proofs.Powers.{pow_pred, odd_part_is}
-use Rattle.meaning.specs.Digits.{nonzero, weight, top, over}
-use Rattle.meaning.specs.Sets.{Between}
-use Rattle.forms.specs.Fractional.{fractional_digit, remaining, Turn}
-use Rattle.forms.proofs.Built.{put_weight}
-use Rattle.forms.proofs.Strings.{nonzero_one, nonzero_none, over_some}
-use Rattle.forms.proofs.Turns.{turn_even, digit_by, turn_digit, above_plus, above_minus}
-use Rattle.forms.proofs.Wmof.{zero_at}
+use Rattle.meaning.specs.Scalars.{most_bytes}
+use Rattle.meaning.specs.Sets.{Between, Pair}
+use Rattle.forms.specs.Fractional.{fractional_digit, fractional_from, remaining, Turn}
+use Rattle.forms.proofs.Turns.{turn_skipped, turn_even, digit_by, turn_digit, above_plus, above_minus}
 use Rattle.places.proofs.Openings.{same_low, same_high}
-use Rattle.wnaf.specs.Stretches.{Reached, Takes}
-use Rattle.wnaf.proofs.Strings.{reach_pass, reach_digit}
+use Rattle.width.proofs.Widths.{pair_small}
+use Rattle.wnaf.specs.Stretches.{found, coming, Ready, Takes}
+use Rattle.wnaf.proofs.Strings.{found_digit, found_pass}
 
 -- ---- low bits in which two numbers agree
 -- the same is added to both
@@ -53,20 +54,63 @@ pub odd_over : (d x : ℕ) → x < 2 ^ d → count_trailing_zeros d x < d → x 
 odd_over d zero l h = absurd (omega (arith, trailing_of_zero d))
 odd_over d (suc x) l h = (odd_part_is d (suc x) (omega arith) l).1
 
+-- ---- the digits to come
+module _ (w m p N : ℕ) where
+  -- a turn's digit is the first, and then come the others
+  turned : (i c s c' s' : ℕ) (z : ℤ) → i < p → Turn w m N i (remaining N i c s) c' s' z
+      → fractional_from w m (p - i) (remaining N i c s) ≡ z ∷ fractional_from w m (p - (i + 1)) (remaining N (i + 1) c' s')
+  unfolding fractional_from
+  turned i c s c' s' z h t =
+      let k : p - i ≡ suc (p - (i + 1)) = omega arith in
+      cc (t.digit, t.next, ap (λ t. fractional_from w m t (remaining N i c s)) k)
+
+  -- past the last place none come
+  pub coming_end : (i c s : ℕ) → p ≤ i → coming w m p N i c s ≡ []
+  unfolding fractional_from found
+  coming_end i c s h =
+      let k : p - i ≡ 0 = omega arith in
+      ap (λ t. found i (fractional_from w m t (remaining N i c s))) k
+
+  -- a digit that is 0 is passed
+  coming_pass : (i c s c' s' : ℕ) → Turn w m N i (remaining N i c s) c' s' (pos 0) → coming w m p N i c s ≡ coming w m p N (i + 1) c' s'
+  coming_pass i c s c' s' t = go (dec_lt i p)
+    where
+      go : Dec (i < p) → coming w m p N i c s ≡ coming w m p N (i + 1) c' s'
+      go (yes h) = ap (found i) (turned i c s c' s' (pos 0) h t) ∙ found_pass i (fractional_from w m (p - (i + 1)) (remaining N (i + 1) c' s'))
+      go (no h) = coming_end i c s (omega arith) ∙ sym (coming_end (i + 1) c' s' (omega arith))
+
+  -- and so are those that are skipped
+  coming_skipped : (i c s : ℕ) → coming w m p N i c s ≡ coming w m p N (i + s) c 0
+  coming_skipped i c zero = ap (λ t. coming w m p N t c 0) (sym (add-zero i))
+  coming_skipped i c (suc s) =
+      let e : i + 1 + s ≡ i + suc s = omega arith in
+      let k : suc s - 1 ≡ s = omega arith in
+      coming_pass i c (suc s) c s (rw k at (turn_skipped w m N i c (suc s) (omega arith))) ∙ coming_skipped (i + 1) c s ∙ ap (λ t. coming w m p N t c 0) e
+
+  -- a digit that is not 0, and the zeros after it
+  coming_digit : (i c c' : ℕ) (z : ℤ) → 0 < w → i < p → z ≢ pos 0 → Turn w m N i (remaining N i c 0) c' (w - 1) z
+      → coming w m p N i c 0 ≡ (i, z) ∷ coming w m p N (i + w) c' 0
+  coming_digit i c c' z h l n t =
+      let k : i + 1 + (w - 1) ≡ i + w = omega arith in
+      ap (found i) (turned i c 0 c' (w - 1) z l t) ∙ found_digit i z (fractional_from w m (p - (i + 1)) (remaining N (i + 1) c' (w - 1))) n
+      ∙ ap (λ t. (i, z) ∷ t) (coming_skipped (i + 1) c' (w - 1) ∙ ap (λ t. coming w m p N t c' 0) k)
+
 -- ---- zeros that are passed
-pub reach_zeros : {w m p N : ℕ} (k : ℕ) {d : List ℤ} (i c : ℕ) → c ≤ 1 → (N / 2 ^ i + c) % 2 ^ k ≡ 0 → Reached w m p N d i c 0
-    → Reached w m p N d (i + k) c 0 × (N / 2 ^ (i + k) + c ≡ (N / 2 ^ i + c) / 2 ^ k)
-reach_zeros {N = N} zero i c small e r = (rw add-zero r, ap (λ t. N / 2 ^ t + c) (add-zero i) ∙ sym (div-one (N / 2 ^ i + c)))
-reach_zeros {w} {m} {p} {N} (suc k) {d} i c small e r =
+pass_zeros : (w m p N k i c : ℕ) → c ≤ 1 → (N / 2 ^ i + c) % 2 ^ k ≡ 0
+    → (coming w m p N i c 0 ≡ coming w m p N (i + k) c 0) × (N / 2 ^ (i + k) + c ≡ (N / 2 ^ i + c) / 2 ^ k)
+pass_zeros w m p N zero i c small e = (ap (λ t. coming w m p N t c 0) (sym (add-zero i)), ap (λ t. N / 2 ^ t + c) (add-zero i) ∙ sym (div-one (N / 2 ^ i + c)))
+pass_zeros w m p N (suc k) i c small e =
     let X = N / 2 ^ i in
     let f : (X + c) % 2 ^ suc k ≡ ((X + c) / 2 % 2 ^ k) * 2 + (X + c) % 2 = ap (λ t. (X + c) % 2 ^ t) (sym (add-one k)) ∙ mod-pow-add (X + c) k 1 in
     let even : (X + c) % 2 ≡ 0 = omega arith in
     let rest : (X + c) / 2 % 2 ^ k ≡ 0 = omega arith in
     let next : N / 2 ^ (i + 1) + c ≡ (X + c) / 2 = ap (λ t. t + c) (sym (shr-shr N i 1)) ∙ omega arith in
-    let (s, q) = reach_zeros {w = w} {m = m} {p = p} {N = N} k {d = d} (i + 1) c small (ap (λ t. t % 2 ^ k) next ∙ rest) (reach_pass r (turn_even w m N i c small even)) in
+    let (s, q) = pass_zeros w m p N k (i + 1) c small (ap (λ t. t % 2 ^ k) next ∙ rest) in
     let at : i + 1 + k ≡ i + suc k = omega arith in
-    let div : (X + c) / 2 / 2 ^ k ≡ (X + c) / 2 ^ suc k = shr-shr (X + c) 1 k ∙ ap (λ t. (X + c) / 2 ^ t) (omega arith) in
-    (rw at at s, ap (λ t. N / 2 ^ t + c) (sym at) ∙ q ∙ ap (λ t. t / 2 ^ k) next ∙ div)
+    let div : (X + c) / 2 / 2 ^ k ≡ (X + c) / 2 ^ suc k = shr-shr (X + c) 1 k ∙ ap (λ t. (X + c) / 2 ^ t) (omega arith) in (
+      coming_pass w m p N i c 0 c 0 (turn_even w m N i c small even) ∙ s ∙ ap (λ t. coming w m p N t c 0) at,
+      ap (λ t. N / 2 ^ t + c) (sym at) ∙ q ∙ ap (λ t. t / 2 ^ k) next ∙ div,
+    )
 
 -- ---- the digit, by y, which agrees with what remains in its low M + w bits, at least w + 1 of them
 pub record Took (w m N i c M : ℕ) (digit : ℤ) (carry next : ℕ) : Type 0 where
@@ -137,71 +181,54 @@ module _ (w m N i c y M : ℕ) (set : Between w m) (one : c ≤ 1) (more : 1 ≤
             agrees = ap (λ t. t % 2 ^ M) (sym (ap (λ t. t / 2 ^ w) (e ∙ none) ∙ high next w (pow_pos w))) ∙ same_high (y + s) (R + s) M w both ∙ ap (λ t. t % 2 ^ M) Z_is;
           })
 
--- ---- the top, where a digit is put over all others
-top_none : (ds : List ℤ) → ((j : ℕ) → get_or ds j (pos 0) ≡ pos 0) → top ds ≡ 0
-unfolding top
-top_none [] h = refl
-top_none (d ∷ ds) h = ap (λ t. over (nonzero d) t) (top_none ds (λ j. h (suc j))) ∙ nonzero_none (h 0)
+-- ---- the digit, as a byte keeps it
+kept : {w m y : ℕ} {digit : ℤ} {carry next : ℕ} → m < 128 → Takes w m y digit carry next → to_z w8 (of_z w8 digit) ≡ digit
+kept {digit = digit} {carry = carry} few t = to_z-of_z (go (ℕ_discrete carry 0))
+  where
+    go : Dec (carry ≡ 0) → SFits w8 digit
+    go (yes z) = rw (t.plus z).0 (record { sfits = omega (arith, t.small) })
+    go (no n) =
+        let l : t.size < 128 = omega (arith, t.small) in
+        rw (t.minus (omega (arith, t.one))).0 (subst (λ z. SFits w8 (pos 0 -ℤ z)) (plain_is w8 t.size l) (negated_fits w8 t.size l))
 
-pub top_put : (ds : List ℤ) (p : ℕ) (z : ℤ) → p < length ds → ((j : ℕ) → p ≤ j → get_or ds j (pos 0) ≡ pos 0) → z ≢ pos 0 → top (set ds p z) ≡ p + 1
-unfolding top
-top_put [] p z l h n = absurd (omega arith)
-top_put (d ∷ ds) zero z l h n = ap (λ t. over (nonzero z) t) (top_none ds (λ j. h (suc j) (omega arith))) ∙ nonzero_one z n
-top_put (d ∷ ds) (suc p) z l h n =
-    let e = top_put ds p z (omega arith) (λ j k. h (suc j) (omega arith)) n in
-    ap (λ t. over (nonzero d) t) e ∙ over_some (nonzero d) (p + 1) (omega arith) ∙ omega arith
-
-pub top_zeros : (m : ℕ) {d : List ℤ} → d ≡ replicate m (pos 0) → top d ≡ 0
-top_zeros m e = ap top e ∙ top_none (replicate m (pos 0)) (zero_at m)
-
--- ---- a stretch of 56 bits from a place on: x agrees with what remains at place i, as far as the stretch goes
-pub record Going (w m p N from i c x zeros t : ℕ) (d : List ℤ) : Type 0 where
-  pub reached : Reached w m p N d i c 0
-  pub small : c ≤ 1
-  pub since : from ≤ i
-  pub within : i ≤ from + 56
-  pub agrees : x % 2 ^ (from + 56 - i) ≡ (N / 2 ^ i + c) % 2 ^ (from + 56 - i)
-  pub fits : x < 2 ^ 57
-  pub zeros_are : zeros ≡ count_trailing_zeros 64 x
-  pub top_is : t ≡ top d
-
+-- ---- what a stretch tells: x agrees with what remains at place i, as far as the stretch goes
 -- at its start
-pub going_start : {w m p N from c r t : ℕ} {d : List ℤ} → Reached w m p N d from c 0 → c ≤ 1 → r ≡ N / 2 ^ from % 2 ^ 56 → t ≡ top d → Going w m p N from from c (r + c) (count_trailing_zeros 64 (r + c)) t d
-going_start {N = N} {from = from} {c = c} {r = r} reached small e tops =
-    let span : from + 56 - from ≡ 56 = omega arith in
-    let under_56 : N / 2 ^ from % 2 ^ 56 < 2 ^ 56 = mod-lt (N / 2 ^ from) (pow_pos 56) in
-    let low_bits : r % 2 ^ 56 ≡ N / 2 ^ from % 2 ^ 56 = ap (λ t. t % 2 ^ 56) e ∙ mod-eq_of_lt under_56 in
+pub ready_start : {w m N bits from c r end : ℕ} → Pair w m → bits ≤ 8 * most_bytes → c ≤ 1 → r ≡ N / 2 ^ from % 2 ^ 56 → from < end → end ≤ bits + 1 → end + w ≤ from + 56
+    → Ready w m N bits from c (r + c) end
+ready_start {w} {m} {N} {bits} {from} {c} {r} {end} pair few small e more ends room =
+    let X = N / 2 ^ from in
+    let under_56 : X % 2 ^ 56 < 2 ^ 56 = mod-lt X (pow_pos 56) in
+    let low_bits : r % 2 ^ 56 ≡ X % 2 ^ 56 = ap (λ t. t % 2 ^ 56) e ∙ mod-eq_of_lt under_56 in
     record {
-      reached = reached;
+      pair = pair;
+      few = few;
       small = small;
-      since = omega arith;
-      within = omega arith;
-      agrees = rw span (same_more r (N / 2 ^ from) c 56 low_bits);
       fits = omega arith;
-      zeros_are = refl;
-      top_is = tops;
+      ends = ends;
+      within = omega arith;
+      room = room;
+      agrees = λ h. same_more r X c (end + w - from) (same_low r X 56 (end + w - from) (omega arith) low_bits);
     }
 
-module _ {w m p N from last : ℕ} (of : Between w m) (few : m < 128) (room : last + w + 1 ≤ from + 56) {i c x zeros t : ℕ} {d : List ℤ} (g : Going w m p N from i c x zeros t d) where
-  -- no digit starts up to the last place where one may
-  pub going_end : last < i + zeros → i ≤ last → Reached w m p N d (last + 1) c 0
-  going_end l h =
-      let k = last + 1 - i in
-      let at : i + k ≡ last + 1 = omega arith in
-      let none : x % 2 ^ k ≡ 0 = zeros_low 64 k x (omega (arith, g.zeros_are)) in
-      rw at at (reach_zeros k i c g.small (sym (same_low x (N / 2 ^ i + c) (from + 56 - i) k (omega arith) g.agrees) ∙ none) g.reached).0
-
-  pub going_past : {r : ℕ} → (i ≤ last → r ≡ last + 1) → (last < i → r ≡ i) → last < i + zeros → from ≤ last → (from < r) × Reached w m p N d r c 0
-  going_past {r} on at l f = go (dec_lt last i)
+module _ {w m N bits i c x end : ℕ} (g : Ready w m N bits i c x end) where
+  -- no digit starts up to its end
+  pub ready_past : {from : ℕ} → end ≤ i + count_trailing_zeros 64 x → (i < end → from ≡ end) → (end ≤ i → from ≡ i) → coming w m (bits + 1) N i c 0 ≡ coming w m (bits + 1) N from c 0
+  ready_past {from} l on at = go (dec_lt i end)
     where
-      go : Dec (last < i) → (from < r) × Reached w m p N d r c 0
-      go (yes h) = (omega (arith, at h), rw (at h) g.reached)
-      go (no h) =
-          let k : i ≤ last = omega arith in
-          (omega (arith, on k), rw (on k) (going_end l k))
+      go : Dec (i < end) → coming w m (bits + 1) N i c 0 ≡ coming w m (bits + 1) N from c 0
+      go (yes h) =
+          let k = end - i in
+          let there : i + k ≡ from = omega (arith, on h) in
+          let none : x % 2 ^ k ≡ 0 = zeros_low 64 k x (omega arith) in
+          (pass_zeros w m (bits + 1) N k i c g.small (sym (same_low x (N / 2 ^ i + c) (end + w - i) k (omega arith) (g.agrees h)) ∙ none)).0
+          ∙ ap (λ t. coming w m (bits + 1) N t c 0) there
+      go (no h) = ap (λ t. coming w m (bits + 1) N t c 0) (sym (at (omega arith)))
 
   -- one starts there, over the zeros
-  module _ (l : i + zeros ≤ last) where
+  module _ (l : i + count_trailing_zeros 64 x < end) where
+    abbrev zeros : ℕ
+    zeros = count_trailing_zeros 64 x
+
     abbrev at : ℕ
     at = i + zeros
 
@@ -209,39 +236,40 @@ module _ {w m p N from last : ℕ} (of : Between w m) (few : m < 128) (room : la
     y = x / 2 ^ zeros
 
     abbrev left : ℕ
-    left = from + 56 - (at + w)
+    left = end - at
 
-    passed : Reached w m p N d at c 0 × (N / 2 ^ at + c ≡ (N / 2 ^ i + c) / 2 ^ zeros)
+    of : Between w m
+    of = g.pair.between
+
+    few : m < 128
+    few = pair_small g.pair
+
+    agreed : x % 2 ^ (end + w - i) ≡ (N / 2 ^ i + c) % 2 ^ (end + w - i)
+    agreed = g.agrees (omega arith)
+
+    passed : (coming w m (bits + 1) N i c 0 ≡ coming w m (bits + 1) N at c 0) × (N / 2 ^ at + c ≡ (N / 2 ^ i + c) / 2 ^ zeros)
     passed =
-        let none : x % 2 ^ zeros ≡ 0 = zeros_low 64 zeros x (omega (arith, g.zeros_are)) in
-        let o = g.since in
-        reach_zeros zeros i c g.small (sym (same_low x (N / 2 ^ i + c) (from + 56 - i) zeros (omega arith) g.agrees) ∙ none) g.reached
+        let none : x % 2 ^ zeros ≡ 0 = zeros_low 64 zeros x (omega arith) in
+        pass_zeros w m (bits + 1) N zeros i c g.small (sym (same_low x (N / 2 ^ i + c) (end + w - i) zeros (omega arith) agreed) ∙ none)
 
     same : y % 2 ^ (left + w) ≡ (N / 2 ^ at + c) % 2 ^ (left + w)
     same =
-        let o = g.since in
-        let k : left + w + zeros ≡ from + 56 - i = omega arith in
-        same_high x (N / 2 ^ i + c) (left + w) zeros (rw k g.agrees) ∙ ap (λ t. t % 2 ^ (left + w)) (sym passed.1)
+        let k : left + w + zeros ≡ end + w - i = omega arith in
+        same_high x (N / 2 ^ i + c) (left + w) zeros (rw k agreed) ∙ ap (λ t. t % 2 ^ (left + w)) (sym passed.1)
 
-    pub going_few : zeros < 64
-    going_few = let o = g.since in omega arith
+    pub ready_few : zeros < 64
+    ready_few = omega (arith, g.room)
 
-    pub going_odd : (y % 2 ≡ 1) × (y < 2 ^ 57)
-    going_odd = (rw g.zeros_are (odd_over 64 x (omega (arith, g.fits)) (rw g.zeros_are at going_few)), omega (arith, g.fits, shr_le x zeros))
-
-    pub going_zero : get_or d at (pos 0) ≡ pos 0
-    going_zero = passed.0.zeros at (omega arith)
+    pub ready_odd : (y % 2 ≡ 1) × (y < 2 ^ 57)
+    ready_odd = (odd_over 64 x (omega (arith, g.fits)) ready_few, omega (arith, g.fits, shr_le x zeros))
 
     module _ {digit : ℤ} {carry next : ℕ} (takes : Takes w m y digit carry next) where
-      going_took : Took w m N at c left digit carry next
-      going_took = took w m N at c y left of g.small (let o = g.since in omega arith) same going_odd.0 digit carry next takes
-
-      pub going_digit : digit ≢ pos 0
-      going_digit = going_took.some
+      ready_took : Took w m N at c left digit carry next
+      ready_took = took w m N at c y left of g.small (omega arith) same ready_odd.0 digit carry next takes
 
       -- the number above a digit has fewer bits
-      going_fits : next < 2 ^ 57
-      going_fits = go (ℕ_discrete carry 0)
+      ready_fits : next < 2 ^ 57
+      ready_fits = go (ℕ_discrete carry 0)
         where
           W : 2 * 2 ≤ 2 ^ w
           W = pow_mono {i = 2} {j = w} of.wide
@@ -250,24 +278,22 @@ module _ {w m p N from last : ℕ} (of : Between w m) (few : m < 128) (room : la
           four = mul-le-mul_left next W
 
           go : Dec (carry ≡ 0) → next < 2 ^ 57
-          go (yes z) = omega (arith, (takes.plus z).1, four, going_odd.1)
-          go (no n) = omega (arith, (takes.minus (omega (arith, takes.one))).1, four, going_odd.1, takes.small, few)
+          go (yes z) = omega (arith, (takes.plus z).1, four, ready_odd.1)
+          go (no n) = omega (arith, (takes.minus (omega (arith, takes.one))).1, four, ready_odd.1, takes.small, few)
 
-      pub going_on : {d' : List ℤ} → at < p → d' ≡ set d at digit → Going w m p N from (at + w) carry next (count_trailing_zeros 64 next) (at + 1) d'
-      going_on there e =
-          let t = going_took in
-          let o = g.since in
+      pub ready_on : Ready w m N bits (at + w) carry next end
+      ready_on =
+          let k : end - at ≡ end + w - (at + w) = omega arith in
           record {
-            reached = reach_digit (omega (arith, of.wide)) passed.0 t.turn e;
+            pair = g.pair;
+            few = g.few;
             small = takes.one;
-            since = omega arith;
+            fits = ready_fits;
+            ends = g.ends;
             within = omega arith;
-            agrees = t.agrees;
-            fits = going_fits;
-            zeros_are = refl;
-            top_is = sym (ap top e ∙ top_put d at digit (omega (arith, passed.0.same_length)) passed.0.zeros going_digit);
+            room = omega (arith, g.room);
+            agrees = λ h. rw k at ready_took.agrees;
           }
 
-      -- and one digit more
-      pub going_weighs : at < p → weight (set d at digit) ≡ weight d + 1
-      going_weighs there = put_weight d at digit (omega (arith, passed.0.same_length)) going_zero (nonzero_one digit going_digit) ∙ omega arith
+      pub ready_gives : coming w m (bits + 1) N i c 0 ≡ (at, to_z w8 (of_z w8 digit)) ∷ coming w m (bits + 1) N (at + w) carry 0
+      ready_gives = rw (kept few takes) (passed.0 ∙ coming_digit w m (bits + 1) N at c carry digit (omega (arith, of.wide)) (omega (arith, g.ends)) ready_took.some ready_took.turn)

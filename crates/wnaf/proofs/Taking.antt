@@ -5,7 +5,7 @@ use native.Mathlib.Omega.{arith}
 use native.Mathlib.Decide.{dec_lt}
 use native.Mathlib.Nat.{mod-lt}
 use lib.IntN.{ℤ, pos, ◌-ℤ◌}
-use lib.Pow.{pow_pos, split, shr_le}
+use lib.Pow.{pow_pos, split}
 use Rattle.laws.proofs.Integers.{diffs, ring, minus}
 use Rattle.meaning.specs.Sets.{Between}
 use Rattle.forms.proofs.Made.{Sizes, sizes_of}
@@ -53,15 +53,15 @@ module _ (w m y : ℕ) (set : Between w m) (odd : y % 2 ≡ 1) where
   sizes = sizes_of w m set
 
   -- in a whole set, by half of the span
-  module _ (h : ℕ) (whole : m + 1 ≡ h) (span : 2 * h ≡ 2 ^ w) where
+  module _ (h W : ℕ) (whole : m + 1 ≡ h) (span : 2 * h ≡ 2 ^ w) (W_is : W ≡ 2 ^ w) where
     abbrev e₁ : ℕ
-    e₁ = (y + h) % (2 * h)
+    e₁ = (y + h) % W
 
     abbrev q₁ : ℕ
     q₁ = (y + h) / 2 ^ w
 
     parts₁ : y + h ≡ q₁ * 2 ^ w + e₁
-    parts₁ = sym (split (y + h) w) ∙ ap (λ t. q₁ * 2 ^ w + (y + h) % t) (sym span)
+    parts₁ = sym (split (y + h) w) ∙ ap (λ t. q₁ * 2 ^ w + (y + h) % t) (sym W_is)
 
     even₁ : q₁ * 2 ^ w ≡ 2 * (q₁ * 2 ^ (w - 1))
     even₁ = ap (λ t. q₁ * t) sizes.half ∙ omega arith
@@ -69,8 +69,8 @@ module _ (w m y : ℕ) (set : Between w m) (odd : y % 2 ≡ 1) where
     odd₁ : e₁ % 2 ≡ 1
     odd₁ = odd_left y h (q₁ * 2 ^ (w - 1)) e₁ (2 ^ (w - 1 - 1)) odd (omega (arith, sizes)) (omega (arith, parts₁, even₁))
 
-    pub left_whole : (e₁ < 2 * h) × (0 < e₁)
-    left_whole = (mod-lt (y + h) (omega arith), omega (arith, odd₁))
+    left_whole : (e₁ < 2 * h) × (0 < e₁)
+    left_whole = (omega (arith, mod-lt (y + h) {m = W} (omega (arith, pow_pos w)), span, W_is), omega (arith, odd₁))
 
     pub takes_whole : {digit : ℤ} {carry next : ℕ} → Left e₁ h q₁ digit carry next → Takes w m y digit carry next
     takes_whole l =
@@ -78,7 +78,7 @@ module _ (w m y : ℕ) (set : Between w m) (odd : y % 2 ≡ 1) where
         takes_of w m y h q₁ e₁ set odd parts₁ (omega arith) (omega arith) (λ _. (omega arith, omega arith)) l
 
   -- in a set between two widths, by the largest digit
-  module _ (W : ℕ) (double : W ≡ 2 * 2 ^ w) where
+  module _ {W : ℕ} (double : W ≡ 2 * 2 ^ w) where
     abbrev e₂ : ℕ
     e₂ = (y + m) % W
 
@@ -96,12 +96,6 @@ module _ (w m y : ℕ) (set : Between w m) (odd : y % 2 ≡ 1) where
 
     under₂ : e₂ < W
     under₂ = mod-lt (y + m) (omega (arith, pow_pos w))
-
-    pub above_small : Q ≤ y + m
-    above_small = ap_le (sym W_is) (shr_le (y + m) (w + 1))
-      where
-        ap_le : {U : ℕ} → 2 ^ (w + 1) ≡ U → (y + m) / 2 ^ (w + 1) ≤ y + m → (y + m) / U ≤ y + m
-        ap_le e h = rw (← e) h
 
     even₂ : e₂ % 2 ≡ 0
     even₂ = omega (arith, parts₂, set.odd)

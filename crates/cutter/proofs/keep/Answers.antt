@@ -9,7 +9,7 @@ use Rattle.cutter.proofs.keep.Goals as goal
 pub returns : goal.returns
 returns c =
     let a = c.args.kept in
-    let n = c.fewer-count.result in
+    let n = c.min-count.result in
     let line = c.args.line.now in
     let more = c.copy_from_slice.new.self in
     let characters = c.args.characters.now in
@@ -17,6 +17,6 @@ returns c =
     let same = same_len_mid a (a + n - a) line more c.copy_from_slice.auto.self in
     record {
       within = omega arith;
-      keeps = keeps_more characters line a n _ c.fewer-count.ensures
+      keeps = keeps_more characters line a n _ c.min-count.ensures
           (take-put_mid a (a + n - a) line more (a + n) (omega arith) (omega arith) ∙ ap (λ l. take a line ++ l) c.copy_from_slice.ensures.after) same;
     }

@@ -1,4 +1,4 @@
--- `reader::call` meets its contract, as `step` does; the pending digit is read back from its byte. Assumes nothing.
+-- `reader::call` meets its contract: inside a window, or where none is open; the pending digit is read back from its byte. Assumes nothing.
 use mathlib.Core.Path.{◌≡◌, ◌∙◌}
 use borrow.Author.Rules.{rules}
 use mir.Syntax.{w8}
@@ -16,5 +16,4 @@ returns-then-state c =
 pub returns : goal.returns
 returns c =
     let q = c.args.state in
-    let p : to_z w8 (of_z w8 q.pending) ≡ q.pending = search rules in
-    rw p at c.fresh.ensures ∙ takes_fresh (order_of q.order) c.args.scalar.now q.place q.width q.pending q.spot q.floor c.if-state.false
+    c.fresh.ensures ∙ takes_fresh (order_of q.order) c.args.scalar.now q.place q.width q.pending q.spot q.floor c.if-state.false

@@ -3,8 +3,9 @@ use mathlib.Core.Path.{◌≡◌, refl, ap}
 use Prim.Native.Nat.{ℕ, suc, ◌-◌}
 use native.Mathlib.Omega.{arith}
 use Rattle.laws.specs.Deciding.{Decides}
-use Rattle.meaning.specs.Scalars.{number, order_of}
+use Rattle.meaning.specs.Scalars.{number}
 use Rattle.meaning.specs.Windows.{window_bits}
+use Rattle.scalar.specs.Orders.{ordered}
 use Rattle.windows.specs.Openings.{Opens}
 use Rattle.windows.proofs.Opened.{bits_same, bits_differ}
 use Rattle.reader.proofs.Takes.{opened_none, opened_some}
@@ -16,7 +17,7 @@ module _ (c : After-opens) where
   w = c.args.w.bits
 
   abbrev N : ℕ
-  N = number (order_of c.args.order) c.args.scalar.now
+  N = number (ordered c.args.order) c.args.scalar.now
 
   abbrev i : ℕ
   i = c.args.place - 1
@@ -33,7 +34,7 @@ pub returns-then-opens : goal.returns-then-opens
 returns-then-opens c =
     let o = (goal.at.returns-then-opens c).After-opens in
     let d = bits_differ (w o) (N o) (i o) c.window-bits.result (omega arith) (seen o) c.opens.result (tells o) c.if-opens.true in
-    let e : c.under.result ≡ suc (i o) - w o = omega (arith, c.under.ensures, c.bits-width.ensures, c.requires.place_nonzero) in
+    let e : c.saturating_sub.result ≡ suc (i o) - w o = omega (arith, c.saturating_sub.ensures, c.bits-width.ensures, c.requires) in
     ap (λ t. t.floor) (opened_some (w o) (N o) (i o) refl d refl refl e)
 
 pub returns : goal.returns

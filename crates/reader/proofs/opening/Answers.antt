@@ -8,9 +8,10 @@ use borrow.Author.Rules.{rules}
 use mir.Syntax.{w8}
 use mir.Val.{to_z, of_z}
 use Rattle.laws.specs.Deciding.{Decides}
-use Rattle.meaning.specs.Scalars.{number, order_of, bit, below}
+use Rattle.meaning.specs.Scalars.{number, bit, below}
 use Rattle.meaning.specs.Windows.{window_bits}
 use Rattle.meaning.specs.Wmof.{window_at}
+use Rattle.scalar.specs.Orders.{ordered}
 use Rattle.windows.specs.Openings.{Opens}
 use Rattle.windows.proofs.Opened.{opened_at, bits_same, bits_differ, looked, puts}
 use Rattle.reader.proofs.Takes.{opened_none, opened_some}
@@ -22,7 +23,7 @@ module _ (c : After-opens) where
   w = c.args.w.bits
 
   abbrev N : ℕ
-  N = number (order_of c.args.order) c.args.scalar.now
+  N = number (ordered c.args.order) c.args.scalar.now
 
   abbrev i : ℕ
   i = c.args.place - 1
@@ -39,9 +40,9 @@ module _ (c : After-opens) where
   differ : c.opens.result ≡ true → bit N i ≢ below N i
   differ = bits_differ w N i c.window-bits.result (omega arith) seen c.opens.result tells
 
-pub placed-found-requires-clause-left_le_most_places : goal.placed-found-requires-clause-left_le_most_places
-placed-found-requires-clause-left_le_most_places c =
-    let o = (goal.at.placed-found-requires-clause-left_le_most_places c).After-opens in
+pub placed-found-requires : goal.placed-found-requires
+placed-found-requires c =
+    let o = (goal.at.placed-found-requires c).After-opens in
     let d = differ o c.if-opens.true in
     let found = looked (w o) (N o) (i o) c.window-bits.result (omega arith) (seen o) d c.look_up.ensures in
     let over = (opened_at (w o) (N o) (i o) (omega arith) d).over in
@@ -52,7 +53,7 @@ returns-then-opens c =
     let o = (goal.at.returns-then-opens c).After-opens in
     let d = differ o c.if-opens.true in
     let found = looked (w o) (N o) (i o) c.window-bits.result (omega arith) (seen o) d c.look_up.ensures in
-    let above : suc (i o) ≡ c.args.place = omega (arith, c.requires.place_nonzero) in
+    let above : suc (i o) ≡ c.args.place = omega (arith, c.requires) in
     let P = puts (i o) (window_at (w o) (N o) (i o)) above found (rw c.bits-width.ensures at c.placed-found.ensures) in
     let unit : to_z w8 (of_z w8 c.placed-found.result.unit) ≡ c.placed-found.result.unit = search rules in
     opened_some (w o) (N o) (i o) c.pass.ensures d (unit ∙ P.unit_is) P.spot_is P.left_is

@@ -1,22 +1,22 @@
 -- `reader::start` meets its contract, by one law for each of its answers. Assumes nothing.
 use mathlib.Core.Path.{refl}
-use Rattle.width.proofs.Widths.{known_wide, known_bad, width_fine}
+use Rattle.width.proofs.Widths.{width_fine}
 use Rattle.scalar.specs.Orders.{ordered}
 use Rattle.reader.proofs.Starts.{starts_none, starts_all}
 use Rattle.reader.proofs.start.Goals as goal
 
-pub returns-then-scalar-gt-MOST_BYTES : goal.returns-then-scalar-gt-MOST_BYTES
-returns-then-scalar-gt-MOST_BYTES c =
+pub returns-in-None : goal.returns-in-None
+returns-in-None c =
     let a = c.args in
-    let wide = width_fine (known_wide _ c.known.ensures c.in-As.is) in
-    starts_none a.width (ordered a.order) a.scalar.now 1 refl (wide, (c.if-scalar-gt-MOST_BYTES.true, refl)) (rw c.code_of-code.ensures at c.ready.ensures)
+    starts_none a.width (ordered a.order) a.scalar.now 0 refl (c.in-None.ensures, refl) (cc)
 
-pub returns-in-As : goal.returns-in-As
-returns-in-As c =
+pub returns-in-Some : goal.returns-in-Some
+returns-in-Some c =
     let a = c.args in
-    starts_all a.width (ordered a.order) a.scalar.now (known_wide _ c.known.ensures c.in-As.is) c.if-scalar-gt-MOST_BYTES.false (rw c.code_of-code.ensures at c.ready-in-As.ensures)
+    starts_none a.width (ordered a.order) a.scalar.now 1 refl (width_fine c.in-Some.ensures.2, (c.if-scalar-gt-MOST_BYTES.true, refl))
+    (cc)
 
-pub returns : goal.returns
-returns c =
+pub returns-in-Some-2 : goal.returns-in-Some-2
+returns-in-Some-2 c =
     let a = c.args in
-    starts_none a.width (ordered a.order) a.scalar.now 0 refl (known_bad _ c.known.ensures c.in_default.is, refl) (rw c.code_of-code.ensures at c.ready-2.ensures)
+    starts_all a.width (ordered a.order) a.scalar.now c.in-Some.ensures.2 c.if-scalar-gt-MOST_BYTES.false (cc)

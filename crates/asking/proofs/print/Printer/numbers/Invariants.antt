@@ -1,0 +1,7 @@
+-- Two characters are written for each byte of each number that is passed.
+use Rattle.std.proofs.Common.{◌*◌}
+use Rattle.asking.specs.Printing.{Wrote}
+use Rattle.asking.proofs.print.Printer.numbers.Given as goal
+
+abbrev pub invariant-loop-number : goal.invariant-loop-number
+invariant-loop-number g l = Wrote l.initial.self l.self (2 * g.T.Number.size * l.number-index)

@@ -1,0 +1,2 @@
+-- What is known of the numbers.
+pub mod Coded

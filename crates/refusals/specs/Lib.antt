@@ -1,0 +1,2 @@
+-- The number of each reason.
+pub mod Coded

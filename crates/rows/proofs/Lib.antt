@@ -1,2 +1,0 @@
--- Laws of eight entries in a word.
-pub mod Entries

@@ -1,2 +1,0 @@
--- What the contracts of rows say.
-pub mod Reading

@@ -1,0 +1,7 @@
+-- The first multiples are stored, and the next is found. Assumes nothing.
+use Rattle.walk.proofs.Storing.{Storing}
+use Rattle.run.proofs.Multiples.{stored}
+use Rattle.run.proofs.store.Given as goal
+
+abbrev pub invariant-loop-stored : goal.invariant-loop-stored
+invariant-loop-stored l = Storing (stored l.modulus l.base) l.count l.initial.stored-items l.stored-items l.multiple l.stored-index

@@ -1,2 +1,0 @@
--- Laws of a raised byte.
-pub mod Raises
