@@ -59,9 +59,15 @@ impl<'a> Printer<'a> {
         requires { Room self.old (2 * T.size * length numbers.now) }
         ensures { Wrote self.old self.new (2 * T.size * length numbers.now) }
     {
+        // A printer of its own has its place at hand: that of one that is lent on is fetched and put back for each byte.
+        let mut here = Printer {
+            out: &mut *self.out,
+            end: self.end,
+        };
         for number in numbers {
-            self.number(*number);
+            here.number(*number);
         }
+        self.end = here.end;
     }
 }
 

@@ -2,7 +2,7 @@
 // all places where one may open. The forms differ at one window at most, which the closest form takes one lower at a tie.
 #![tactic(auto)]
 
-ghost use Rattle.std.specs.Prelude.{◌≡◌, ◌+◌, ◌-◌, ◌/◌, ◌%◌, ◌^◌, ◌<◌, ◌≤◌, length};
+ghost use Rattle.std.specs.Prelude.{◌≡◌, ◌+◌, ◌-◌, ◌/◌, ◌%◌, ◌^◌, ◌<◌, ◌≤◌, min, length};
 ghost use Rattle.std.specs.Int.Count.{count_trailing_zeros};
 ghost use Rattle.laws.specs.Deciding.{Decides};
 ghost use Rattle.meaning.specs.Scalars.{number, bit_count, most_bytes};
@@ -26,6 +26,19 @@ pub enum Turn {
     Never,
     AtOne,
     AtZero,
+}
+
+// The turn that a number tells: a leading bit, and no turn by any number above.
+impl From<u32> for Turn {
+    ghost from_gives = { λ number turn. bit_of turn ≡ min number 2 };
+
+    fn from(number: u32) -> Turn {
+        match number {
+            0 => Turn::AtZero,
+            1 => Turn::AtOne,
+            _ => Turn::Never,
+        }
+    }
 }
 
 // The lowest place from `floor` up whose window lies in one stretch with the window of the highest place that is left.

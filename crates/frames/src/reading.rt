@@ -1,5 +1,5 @@
 // A line read to lent digits: what it states, or its fields and its digits. Nothing is written before all is known to fit.
-ghost use Rattle.std.specs.Prelude.{◌≡◌, true, ◌++◌, ◌≤◌, length, drop};
+ghost use Rattle.std.specs.Prelude.{◌≡◌, true, ◌++◌, ◌≤◌, length, drop, pos, replicate};
 ghost use Rattle.meaning.specs.Digits.{weight as weightOf, top as top_of};
 ghost use Rattle.meaning.specs.Hexadecimal.{bytes_of};
 ghost use Rattle.meaning.specs.Frames.{rising, number_at, entries_in, places_in, digits_in, Read};
@@ -84,13 +84,25 @@ fn plain(line: &[u8], digits: &mut [i8]) -> Result<Reading, Reason>
 }
 
 // ---- version 2
+// Zeros, from one place that is not 0 to the next: what is 0 stands. So this is no fill, for which a compiler calls `memset`: a board that reads and does not recode need
+// not have that.
+fn clear(digits: &mut [i8])
+    ensures { digits.new ≡ replicate (length digits.old) (pos 0) }
+{
+    let mut at = 0;
+    while let Some(next) = digits[at..].iter().position(|digit| *digit != 0) {
+        digits[at + next] = 0;
+        at += next + 1;
+    }
+}
+
 // The digits of the entries, and 0 at every other place.
 fn spread(line: &[u8], places: u16, digits: &mut [i8])
     requires sparse_frame { (SparseFrame line.now) × (places ≡ number_at (bytes_of line.now) 5) }
     requires line_value { (rising 0 places (entries_in (bytes_of line.now)) ≡ true) × (places ≤ length digits.old) }
     ensures { digits.new ≡ digits_in (bytes_of line.now) ++ drop (places_in (bytes_of line.now)) digits.old }
 {
-    digits[..usize::from(places)].fill(0);
+    clear(&mut digits[..usize::from(places)]);
     for e in 0..entries::count(line) {
         let (place, digit) = entries::entry(line, e);
         digits[usize::from(place)] = digit;

@@ -26,6 +26,12 @@ digit_of (pos zero) = nil
 digit_of (pos (suc n)) = one
 digit_of (negsuc n) = neg
 
+pub digit_back : (d : D) → digit_of (val d) ≡ d
+unfolding digit_of val
+digit_back neg = refl
+digit_back nil = refl
+digit_back one = refl
+
 -- a digit of a row is at most 1 in size
 small : (x : ℤ) → T (in_set largest_in_row x) → nat_abs x ≤ 1
 unfolding in_set
@@ -235,6 +241,12 @@ merge_weight [] [] = refl
 merge_weight [] (y ∷ ys) = omega (arith, busy_is (pos 0) y, merge_weight [] ys)
 merge_weight (x ∷ xs) [] = omega (arith, busy_is x (pos 0), merge_weight xs [])
 merge_weight (x ∷ xs) (y ∷ ys) = omega (arith, busy_is x y, merge_weight xs ys)
+
+-- a string's rows, merged, and two rows' string, taken apart
+pub merge_rows : (cs : List Col) → merge (row fst cs) (row snd cs) ≡ cs
+unfolding merge row
+merge_rows [] = refl
+merge_rows ((x, y) ∷ cs) = rw (digit_back x, digit_back y) (ap (λ t. (x, y) ∷ t) (merge_rows cs))
 
 pub rows_merge : (us vs : List ℤ) → length us ≡ length vs → T (all_in largest_in_row us) → T (all_in largest_in_row vs) → (row fst (merge us vs) ≡ us) × (row snd (merge us vs) ≡ vs) × (length (merge us vs) ≡ length us)
 unfolding merge row all_in

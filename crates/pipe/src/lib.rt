@@ -2,7 +2,7 @@
 // each is written to standard output. Answers go out in blocks, at the latest before the next read, so that whoever sends a frame and waits gets its answer.
 #![tactic(auto)]
 
-ghost use Rattle.pipe.specs.Pours.{turns, Pours, Ready};
+ghost use Rattle.pipe.specs.Pours.{turns, Pours, Answers, Ready};
 
 use blocks::{BLOCK, Fault, Stream, Taker};
 use frames::Version;
@@ -36,6 +36,8 @@ impl Taker for Pipe {
     ghost ready = { Ready };
 
     ghost takes = { Pours };
+
+    ghost ends = { Answers };
 
     // Answers the lines that end in a block. What stands in `out` goes out each time that there is no room for a whole answer more.
     fn pour(&mut self, rt: &HostRuntime, piece: &[u8]) -> Result<(), Fault> {

@@ -1,5 +1,5 @@
--- The functions for C whose answers are structs of C's own: two outcomes that satisfy the promise of one of them for one input are equal. The other functions answer with the
--- structs of the calls that they make, and have their promises. Assumes nothing.
+-- The functions for C whose answers are structs of C's own: two outcomes that satisfy the promise of one of them for one input are equal. The other functions answer with
+-- structs that are made by `From` of what the calls answer, and have the calls' promises. Assumes nothing.
 use mathlib.Core.Path.{◌≡◌, sym, ap, ◌∙◌}
 use mathlib.Core.List.{List}
 use Prim.Native.Nat.{ℕ}

@@ -35,8 +35,6 @@ pub enum Reason {
 impl From<Reason> for u8 {
     ghost from_gives = { λ reason number. number ≡ coded reason };
 
-    // Once in the archive, and not at each call that may refuse.
-    #[inline(never)]
     fn from(reason: Reason) -> u8 {
         reason as u8
     }

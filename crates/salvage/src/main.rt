@@ -3,7 +3,7 @@
 #![tactic(auto)]
 
 ghost use Rattle.std.specs.Prelude.{◌≤◌, length, IfOk};
-ghost use Rattle.salvage.specs.Pours.{turns, Pours, Ready};
+ghost use Rattle.salvage.specs.Pours.{turns, Pours, Judges, Ready};
 
 use blocks::{BLOCK, Fault, Stream, Taker};
 use sift::Room;
@@ -42,6 +42,8 @@ impl Taker for Salvage {
     ghost ready = { Ready };
 
     ghost takes = { Pours };
+
+    ghost ends = { Judges };
 
     // Judges the lines that end in a block. What stands in `out` and `report` goes out each time that there is no room for a whole line or a whole remark more.
     fn pour(&mut self, rt: &HostRuntime, piece: &[u8]) -> Result<(), Fault> {

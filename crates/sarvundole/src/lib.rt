@@ -5,9 +5,9 @@ pub mod chips;
 pub mod exported;
 pub mod together;
 
-pub use choice::{Chosen, choose};
+pub use choice::{Choice, Chosen, choose};
 pub use digits::{Accepted, Tally};
-pub use frames::{Framed, Parsed, Version, read, write};
+pub use frames::{Framed, Parsed, Reading as Line, Version, read, write};
 pub use joined::run_joint;
 pub use joint::{Joined, Planned, joint};
 pub use judge::{check, check_nonadjacent};
@@ -21,4 +21,4 @@ pub use scalar::{MOST_BYTES, Order};
 pub use search::{Searched, search};
 pub use second::{Translated, run_second, translate};
 pub use tape::{Move, Sign, Step, Taped, Written, decode, tape};
-pub use width::{DigitSet, Width};
+pub use width::{Bits, DigitSet, Width};

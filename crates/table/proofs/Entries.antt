@@ -8,7 +8,7 @@ use native.Mathlib.Nat.{pow-succ'}
 use native.Mathlib.Omega.{arith}
 use lib.Count.{count_leading_zeros, leading_unique}
 use lib.Dec.{T}
-use lib.IntN.{pos}
+use lib.IntN.{ℤ, pos}
 use lib.ListN.{get_or}
 use lib.Pow.{pow_mono}
 use Rattle.std.specs.Ordering.{int_eq}
@@ -62,6 +62,10 @@ module _ (w s : ℕ) (h : Wide w) (l : s < 2 ^ (w + 1)) where
 -- x gives u and k of entry e
 abbrev pub right : ℕ → Window → Bool
 right e x = int_eq x.unit (unit_of e) && int_eq (pos x.twos) (twos_of e)
+
+-- whatever is read off an entry: a list at whose entries the test passes gives f at every entry
+pub whole : {A : Type 0} (value : A → ℤ) (f : ℕ → ℤ) (xs : List A) → T (passes (λ e x. int_eq (value x) (f e)) table_length 0 xs) → (a : A) (e : ℕ) → e < table_length → value (get_or xs e a) ≡ f e
+whole value f xs t a e h = (Decides-int_eq (value (get_or xs e a)) (f e)).0 (is_true _ (at (λ e x. int_eq (value x) (f e)) table_length xs t a e h))
 
 -- so a list at whose entries the test passes gives them at every entry
 pub table : (xs : List Window) → T (passes right table_length 0 xs) → (a : Window) (e : ℕ) → e < table_length → Read e (get_or xs e a)

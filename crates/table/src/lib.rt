@@ -6,7 +6,7 @@ ghost use Rattle.std.specs.Prelude.{◌<◌};
 ghost use Rattle.meaning.specs.Windows.{table_length};
 ghost use Rattle.table.specs.Tables.{Read};
 
-const ENTRIES: usize = 1016;
+pub const ENTRIES: usize = 1016;
 
 // u and k of a window.
 #[derive(Clone, Copy)]

@@ -41,6 +41,8 @@ impl Taker for Trial {
 
     ghost takes = { λ _ _ _. ⊤ };
 
+    ghost ends = { λ _ _. ⊤ };
+
     fn pour(&mut self, rt: &HostRuntime, piece: &[u8]) -> Result<(), Fault> {
         // A step goes on by as much as it takes.
         let mut at = 0;

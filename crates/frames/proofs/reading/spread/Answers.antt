@@ -12,7 +12,7 @@ loop-e-init c =
     let n = c.from.result in
     let e : n ≡ a.places = c.from.ensures in
     let count : length (take n a.digits.now) ≡ a.places = length-take-le n a.digits.now (omega (arith, c.requires.line_value.1)) ∙ e in
-    rw (c.fill.ensures.after (λ y e. e), count, e) (spread_none (bytes_of a.line.now) a.places a.digits.now c.requires.line_value.1 c.requires.line_value.0)
+    rw (c.clear.ensures, count, e) (spread_none (bytes_of a.line.now) a.places a.digits.now c.requires.line_value.1 c.requires.line_value.0)
 
 pub bounds-digits-from : goal.bounds-digits-from
 bounds-digits-from c =

@@ -4,4 +4,4 @@ use Rattle.asking.specs.Printing.{Wrote}
 use Rattle.asking.proofs.print.Printer.numbers.Given as goal
 
 abbrev pub invariant-loop-number : goal.invariant-loop-number
-invariant-loop-number g l = Wrote l.initial.self l.self (2 * g.T.Number.size * l.number-index)
+invariant-loop-number g l = Wrote l.initial.here l.here (2 * g.T.Number.size * l.number-index)
